@@ -1,0 +1,4 @@
+// Prefix rules, and the shortest table that gives server 1 a weight.
+pub mod refusal;
+pub mod rule;
+pub mod server;
