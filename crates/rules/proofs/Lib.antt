@@ -1,0 +1,15 @@
+pub mod Bound
+pub mod ClosedForm
+pub mod Cost
+pub mod DigitCount
+pub mod Fewness
+pub mod Halves
+pub mod Laying
+pub mod LongestMatch
+pub mod Minimal
+pub mod Nearby
+pub mod Shapes
+pub mod Sides
+pub mod Tables
+pub mod Tallies
+pub mod Writings

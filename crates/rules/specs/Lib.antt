@@ -1,2 +1,9 @@
+pub mod Counts
+pub mod Digits
+pub mod Grounds
+pub mod Nearby
+pub mod Prefixes
 pub mod Refusals
 pub mod Servers
+pub mod Shortest
+pub mod Tables

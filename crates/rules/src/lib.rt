@@ -1,4 +1,5 @@
 // Prefix rules, and the shortest table that gives server 1 a weight.
+pub mod counter;
 pub mod refusal;
 pub mod rule;
 pub mod server;
