@@ -8,6 +8,7 @@ pub mod Laying
 pub mod LongestMatch
 pub mod Minimal
 pub mod Nearby
+pub mod Refusing
 pub mod Shapes
 pub mod Sides
 pub mod Tables

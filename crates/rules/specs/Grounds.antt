@@ -13,6 +13,9 @@ use Rattle.rules.specs.Refusals.{Ground, _when_}
 abbrev pub bad-width : ℕ → Bool
 bad-width W = ltb W 1 || ltb 24 W
 
+abbrev pub width-grounds : ℕ → List Ground
+width-grounds W = (WidthOutOfRange when bad-width W) ∷ []
+
 -- A width and a weight or target, which is at most 2 ^ W.
 abbrev pub weight-grounds : ℕ → ℕ → List Ground
 weight-grounds W d = (WidthOutOfRange when bad-width W) ∷ (BeyondWidth when ltb (2 ^ W) d) ∷ []

@@ -1,5 +1,8 @@
 // Prefix rules, and the shortest table that gives server 1 a weight.
 pub mod counter;
+pub mod fewest;
+pub mod neighbours;
 pub mod refusal;
 pub mod rule;
 pub mod server;
+pub mod width;
