@@ -160,14 +160,14 @@ room W j n e h = go (W - j) refl
         let c : n + 1 ≤ 2 ^ v = odd-room v b in
         omega (arith, mul-le-mul-right (2 ^ j) c)
 
-raise : (j m n : ℕ) → 2 * m ≡ n → m * 2 ^ suc j ≡ n * 2 ^ j
+pub raise : (j m n : ℕ) → 2 * m ≡ n → m * 2 ^ suc j ≡ n * 2 ^ j
 raise j m n e = ap (λ (i : ℕ). m * i) (pow-suc 2 j) ∙ omega arith ∙ ap (λ (i : ℕ). i * 2 ^ j) e
 
-one-more : (j m n : ℕ) → m + 1 ≡ n → m * 2 ^ j + 2 ^ j ≡ n * 2 ^ j
+pub one-more : (j m n : ℕ) → m + 1 ≡ n → m * 2 ^ j + 2 ^ j ≡ n * 2 ^ j
 one-more j m n e = omega arith ∙ ap (λ (i : ℕ). i * 2 ^ j) e
 
 -- what is left of n fits one place further up
-carry : (W j n : ℕ) → n * 2 ^ j ≤ 2 ^ W → rest n * 2 ^ suc j ≤ 2 ^ W
+pub carry : (W j n : ℕ) → n * 2 ^ j ≤ 2 ^ W → rest n * 2 ^ suc j ≤ 2 ^ W
 carry W j n k = go (n % 4) refl
   where
     go : (r : ℕ) → n % 4 ≡ r → rest n * 2 ^ suc j ≤ 2 ^ W

@@ -9,8 +9,11 @@ pub mod LongestMatch
 pub mod Minimal
 pub mod Nearby
 pub mod Refusing
+pub mod Rounding
 pub mod Shapes
 pub mod Sides
 pub mod Tables
 pub mod Tallies
+pub mod TopDigit
+pub mod Walking
 pub mod Writings

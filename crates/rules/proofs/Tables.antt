@@ -25,14 +25,14 @@ use Rattle.rules.specs.Prefixes.{within, matches, first-match, same, tally}
 use Rattle.rules.specs.Shortest.{L, Splits}
 use Rattle.rules.specs.Tables.{Term, more, less, term, terms, block, all-to, from-below, from-above, table, Rising, side, Shortest-table}
 use Rattle.rules.proofs.Bound.{least-rules}
-use Rattle.rules.proofs.DigitCount.{D-none, D-unit, D-step, D-even, D-up, D-down}
 use Rattle.rules.proofs.Halves.{at}
 use Rattle.rules.proofs.Laying.{Laid, end, flip, turn, above-flip, up-all, down-all}
 use Rattle.rules.proofs.LongestMatch.{all-reverse, longest-match}
 use Rattle.rules.proofs.Shapes.{Shape, shapes-fit}
+use Rattle.rules.proofs.TopDigit.{short-digits, top-none}
 use Rattle.rules.proofs.Tallies.{tally-ext, within-in}
 
--- ---- the highest digit stands below the width, or the other server has fewer
+-- ---- the terms lie below the width
 
 place : Term → ℕ
 place (more j) = j
@@ -47,38 +47,10 @@ term-low W j minus h = (h, tt)
 term-low W j nought h = tt
 term-low W j plus h = (h, tt)
 
-lighter-rest : (v n : ℕ) → 0 < n → rest n ≤ 2 ^ v → n ≤ 2 ^ suc v → D (2 ^ v - rest n) + 1 ≤ D (rest n) → D (2 ^ suc v - n) + 1 ≤ D n
-lighter-rest v n p h k i = go (n % 4) refl
-  where
-    s : 2 ^ suc v ≡ 2 * 2 ^ v
-    s = omega (arith, pow-suc 2 v)
-
-    go : (r : ℕ) → n % 4 ≡ r → D (2 ^ suc v - n) + 1 ≤ D n
-    go zero e = omega (arith, D-step n, i, D-even (2 ^ suc v - n) (2 ^ v - rest n) (omega (arith, s)))
-    go (suc zero) e =
-        omega (arith, D-step n, i, D-down (2 ^ suc v - n) 0, D-even (2 ^ suc v - n + 2 ^ 0) (2 ^ v - rest n) (omega (arith, s)))
-    go (suc (suc zero)) e = omega (arith, D-step n, i, D-even (2 ^ suc v - n) (2 ^ v - rest n) (omega (arith, s)))
-    go (suc (suc (suc r))) e =
-        let z : 2 ^ suc v - n ≡ 2 * (2 ^ v - rest n) + 2 ^ 0 = omega (arith, s) in
-        omega (arith, D-step n, i, ap D z, D-up (2 * (2 ^ v - rest n)) 0, D-even (2 * (2 ^ v - rest n)) (2 ^ v - rest n) refl)
-
-tops : (W f v j n : ℕ) → j + v ≡ W → n ≤ f → n ≤ 2 ^ v → Low W (terms j (write f n)) ⊎ (D (2 ^ v - n) + 1 ≤ D n)
-unfolding write
-tops W zero v j n e h k = inl tt
-tops W (suc f) v j zero e h k = inl tt
-tops W (suc f) zero j (suc n) e h k =
-    let z : suc n ≡ 4 * 0 + 1 = omega arith in
-    let y : 2 ^ 0 - suc n ≡ 0 = omega arith in
-    inr (omega (arith, ap D z, ap D y, D-unit, D-none))
-tops W (suc f) (suc v) j (suc n) e h k = go (tops W f v (suc j) (rest (suc n)) (omega arith) (omega arith) r)
-  where
-    r : rest (suc n) ≤ 2 ^ v
-    r = omega (arith, pow-suc 2 v)
-
-    go : Low W (terms (suc j) (write f (rest (suc n)))) ⊎ (D (2 ^ v - rest (suc n)) + 1 ≤ D (rest (suc n)))
-        → Low W (terms (suc j) (write f (rest (suc n))) ++ term j (lowest (suc n % 4))) ⊎ (D (2 ^ suc v - suc n) + 1 ≤ D (suc n))
-    go (inl l) = inl (all-append (λ m. place m < W) (terms (suc j) (write f (rest (suc n)))) (term j (lowest (suc n % 4))) l (term-low W j (lowest (suc n % 4)) (omega arith)))
-    go (inr l) = inr (lighter-rest v (suc n) (omega arith) r k l)
+terms-low : (W j : ℕ) (q : List Digit) → j + length q ≤ W → Low W (terms j q)
+terms-low W j [] h = tt
+terms-low W j (d ∷ q) h =
+    all-append (λ m. place m < W) (terms (suc j) q) (term j d) (terms-low W (suc j) q (omega arith)) (term-low W j d (omega arith))
 
 low-lengths : (W u : ℕ) (q : List Term) → Low W q → All (λ r. 0 < r .length) (from-below W u q)
 unfolding from-below place
@@ -93,12 +65,7 @@ low-flip W (more j ∷ q) (h, k) = (h, low-flip W q k)
 low-flip W (less j ∷ q) (h, k) = (h, low-flip W q k)
 
 low-terms : (W n : ℕ) → n ≤ 2 ^ W → D n ≤ D (2 ^ W - n) → Low W (terms 0 (digits n))
-unfolding digits
-low-terms W n h k = go (tops W n W 0 n (omega arith) (omega arith) h)
-  where
-    go : Low W (terms 0 (digits n)) ⊎ (D (2 ^ W - n) + 1 ≤ D n) → Low W (terms 0 (digits n))
-    go (inl l) = l
-    go (inr l) = absurd (omega arith)
+low-terms W n h k = terms-low W 0 (digits n) (omega (arith, short-digits W n (top-none W n h k)))
 
 -- ---- with the rule for all addresses
 

@@ -4,7 +4,7 @@ use mathlib.Core.Logic.{_⊎_, inl, inr}
 use mathlib.Core.List.{List, [], _∷_}
 use Prim.Native.Nat.{ℕ, zero, suc, _+_, _-_, _*_, _/_, _%_, _^_, _≤_, _<_}
 use native.Mathlib.Omega.{arith}
-use Rattle.rules.specs.Digits.{Digit, minus, nought, plus, digit, up, down, nonzero, Writing, lowest, rest, write, digits, D}
+use Rattle.rules.specs.Digits.{Digit, minus, nought, plus, digit, up, down, nonzero, Writing, lowest, rest, after, write, digits, D}
 use Rattle.rules.proofs.DigitCount.{D-step, D-none, weigh, weigh-lowest, nonzero-cons}
 
 lowest-even : (r : ℕ) → r < 4 → r % 2 ≡ 0 → lowest r ≡ nought
@@ -84,11 +84,6 @@ counts n (d ∷ q) w =
     let ih = counts (rest n) q (peel n (d ∷ q) w) in
     let e = ap weigh (peeled n (d ∷ q) w .low) in
     omega (arith, D-step n, nonzero-cons d q, weigh-lowest (n % 4) (omega arith))
-
--- what is left of n above its j lowest digits
-abbrev pub after : ℕ → ℕ → ℕ
-after zero n = n
-after (suc j) n = after j (rest n)
 
 pub digit-is : (j n : ℕ) (q : List Digit) → Writing n q → digit q j ≡ lowest (after j n % 4)
 digit-is zero n q w = peeled n q w .low

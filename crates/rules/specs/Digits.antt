@@ -51,6 +51,11 @@ lowest (suc (suc (suc r))) = minus
 abbrev pub rest : ℕ → ℕ
 rest n = n / 2 + n % 4 / 3
 
+-- What is left of n above its j lowest digits.
+abbrev pub after : ℕ → ℕ → ℕ
+after zero n = n
+after (suc j) n = after j (rest n)
+
 -- The digits of n, at most f of them; n has no more than n.
 unfoldable pub write : ℕ → ℕ → List Digit
 write zero n = []

@@ -7,3 +7,4 @@ pub mod Refusals
 pub mod Servers
 pub mod Shortest
 pub mod Tables
+pub mod Walk

@@ -5,4 +5,6 @@ pub mod neighbours;
 pub mod refusal;
 pub mod rule;
 pub mod server;
+pub mod shortest;
+pub mod table;
 pub mod width;
