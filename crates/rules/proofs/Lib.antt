@@ -1,3 +1,4 @@
+pub mod Blocks
 pub mod Bound
 pub mod ClosedForm
 pub mod Cost
