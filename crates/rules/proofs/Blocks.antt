@@ -169,3 +169,11 @@ totals W w rs r e h =
 pub enough : (W : ℕ) (rs : List Rule) (r : Shares) → all-fit W rs ≡ true → Totals W rs r → r .unmatched ≡ 0 → L W (r .one) ≤ length rs
 enough W rs r f t z =
     least-rules W (r .one) rs (record { fit = f; covers = all-covered W rs (sym (t .unmatched) ∙ z); exact = sym (t .one) })
+
+pub covered-none : (W : ℕ) (rs : List Rule) → Covers W rs → answered W rs None ≡ 0
+covered-none W rs h =
+    tally-ext (λ a. same None (first-match W rs a)) (λ _. 0) (2 ^ W) (λ a k. none (first-match W rs a) (h a k)) ∙ omega (arith, tally-const (2 ^ W) 0)
+  where
+    none : (y : Option Server) → isSome y ≡ true → same None y ≡ 0
+    none None e = let z : _≡_ {A = ℕ} 0 1 = cc in absurd (omega arith)
+    none (Some y) e = refl

@@ -1,0 +1,71 @@
+-- Words and the numbers that they spell.
+use mathlib.Core.Path.{_≡_, refl, sym, ap, _∙_}
+use mathlib.Core.List.{List, [], _∷_, _++_, map}
+use Prim.Native.Nat.{ℕ, _+_, _^_, _<_}
+use native.Mathlib.Omega.{arith}
+use lib.Chars.{codes}
+use lib.ListN.{length, take, getD}
+use Rattle.std.specs.Options.{Cases}
+use Rattle.std.specs.declared.option.Option.{Option}
+use Rattle.std.specs.declared.option.Option.the-variants.{Some, None}
+use Rattle.std.specs.shelf.Lists.{All}
+use Rattle.std.specs.Written.{decimal}
+use Rattle.std.proofs.shelf.Elements.{all-getD}
+use Rattle.std.proofs.shelf.Lists.{take-more, map-append, length-map, getD-map}
+use Rattle.shares.specs.declared.request.Request.{Request}
+use Rattle.shares.specs.declared.request.Request.the-variants.{Table}
+use Rattle.shares.specs.Requests.{spelling, Small, Spelled, Unspelled, NoNumbers}
+
+-- one word that is no number, and the words are no numbers
+pub not-numbers : {X : Type 0} (f : X → List ℕ) (xs : List X) (i : ℕ) (x : X) → i < length xs → x ≡ getD xs i x
+    → ((n : ℕ) → n < 2 ^ 32 → f x ≡ decimal n → ⊥) → NoNumbers (map f xs)
+not-numbers f xs i x h is no-number ns small e =
+    let l : length xs ≡ length ns = sym (length-map xs f) ∙ ap length e ∙ length-map ns decimal in
+    let w : f x ≡ decimal (getD ns i 0)
+    = ap f is ∙ sym (getD-map f xs i x [] h) ∙ ap (λ (ws : List (List ℕ)). getD ws i []) e ∙ getD-map decimal ns i 0 [] (omega arith) in
+    no-number (getD ns i 0) (all-getD (λ n. n < 2 ^ 32) ns i 0 (omega arith) small) w
+
+-- one word more
+pub more-numbers : {X : Type 0} (f : X → List ℕ) (xs : List X) (i : ℕ) (x : X) (n : ℕ) (ns : List ℕ) → i < length xs → x ≡ getD xs i x → f x ≡ decimal n
+    → map f (take i xs) ≡ map decimal ns → map f (take (i + 1) xs) ≡ map decimal (ns ++ n ∷ [])
+more-numbers f xs i x n ns h is e inv =
+    ap (map f) (take-more xs i x h) ∙ map-append f (take i xs) (getD xs i x ∷ [])
+    ∙ ap (λ (ws : List (List ℕ)). ws ++ f (getD xs i x) ∷ []) inv
+    ∙ ap (λ (w : List ℕ). map decimal ns ++ w ∷ []) (ap f (sym is) ∙ e)
+    ∙ sym (map-append decimal ns (n ∷ []))
+
+-- every request has an order and numbers behind it
+numbers-of : Request → List ℕ
+numbers-of (Table width weight) = width ∷ weight ∷ []
+
+tail : List (List ℕ) → List (List ℕ)
+tail [] = []
+tail (w ∷ ws) = ws
+
+spelled-numbers : (q : Request) (w : List ℕ) (ws : List (List ℕ)) → w ∷ ws ≡ spelling q → ws ≡ map decimal (numbers-of q)
+unfolding numbers-of tail
+spelled-numbers (Table width weight) w ws e = ap tail e
+
+small-numbers : (q : Request) → Small q → All (λ n. n < 2 ^ 32) (numbers-of q)
+unfolding numbers-of
+small-numbers (Table width weight) (h, k) = (h, (k, tt))
+
+-- no words spell nothing
+pub no-words : {X : Type 0} (f : X → List ℕ) (xs : List X) → length xs ≡ 0 → Unspelled (map f xs)
+no-words f [] h (Table width weight) small e = let z : _≡_ {A = ℕ} 0 1 = cc in omega arith
+no-words f (x ∷ xs) h q small e = omega arith
+
+-- the words behind the order have to be numbers
+pub no-request : (w : List ℕ) (ws : List (List ℕ)) → NoNumbers ws → Unspelled (w ∷ ws)
+no-request w ws h q small e = h (numbers-of q) (small-numbers q small) (spelled-numbers q w ws e)
+
+-- the order `table` has two numbers behind it
+pub by-table : (order : List ℕ) (ns : List ℕ) (o : Option Request) → order ≡ codes "table"
+    → Cases o (length ns ≡ 2 → ⊥) (Spelled (codes "table" ∷ map decimal ns)) → Cases o (Unspelled (order ∷ map decimal ns)) (Spelled (order ∷ map decimal ns))
+unfolding numbers-of
+by-table order ns None is h =
+    λ q small e. h (sym (length-map ns decimal) ∙ ap length (spelled-numbers q order (map decimal ns) e) ∙ length-map (numbers-of q) decimal ∙ two q)
+  where
+    two : (q : Request) → length (numbers-of q) ≡ 2
+    two (Table width weight) = refl
+by-table order ns (Some q) is h = ap (λ (w : List ℕ). w ∷ map decimal ns) is ∙ h

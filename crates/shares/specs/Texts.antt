@@ -1,0 +1,48 @@
+-- What is printed.
+use mathlib.Core.Path.{_≡_}
+use mathlib.Core.List.{List, [], _∷_, _++_}
+use Prim.Native.Nat.{ℕ}
+use lib.Chars.{codes}
+use Rattle.std.specs.Written.{decimal}
+use Rattle.std.specs.declared.option.Option.{Option}
+use Rattle.std.specs.declared.option.Option.the-variants.{Some, None}
+use Rattle.rules.specs.declared.refusal.Refusal.{Refusal}
+use Rattle.rules.specs.declared.refusal.Refusal.the-variants.{Unreadable}
+use Rattle.rules.specs.declared.rule.Rule.{Rule}
+use Rattle.rules.specs.Grounds.{weight-grounds}
+use Rattle.rules.specs.Refusals.{refusal-number, first}
+use Rattle.rules.specs.Servers.{server-number}
+use Rattle.rules.specs.Shortest.{L}
+use Rattle.rules.specs.Tables.{table}
+use Rattle.shares.specs.declared.request.Request.{Request}
+use Rattle.shares.specs.declared.request.Request.the-variants.{Table}
+use Rattle.shares.specs.Requests.{Spelled, Unspelled}
+
+-- One rule: start, length and server.
+abbrev pub rule-line : Rule → List ℕ
+rule-line r = decimal (r .start) ++ (codes " " ++ (decimal (r .length) ++ (codes " " ++ (decimal (server-number (r .server)) ++ codes "\n"))))
+
+abbrev pub rule-lines : List Rule → List ℕ
+rule-lines [] = []
+rule-lines (r ∷ rs) = rule-line r ++ rule-lines rs
+
+-- The weight that the rules give, how many they are, and by how many they pass the fewest.
+abbrev pub sum-line : ℕ → ℕ → ℕ → List ℕ
+sum-line weight rules over =
+    codes "weight " ++ (decimal weight ++ (codes " rules " ++ (decimal rules ++ (codes " over " ++ (decimal over ++ codes "\n")))))
+
+abbrev pub refusal-line : Refusal → List ℕ
+refusal-line why = codes "no " ++ (decimal (refusal-number why) ++ codes "\n")
+
+-- A table is printed with exactly the weight asked for, the fewest rules, and none over.
+abbrev pub table-answer : ℕ → ℕ → Option Refusal → List ℕ
+table-answer W d (Some why) = refusal-line why
+table-answer W d None = rule-lines (table W d) ++ sum-line d (L W d) 0
+
+abbrev pub text-of : Request → List ℕ
+text-of (Table W d) = table-answer W d (first (weight-grounds W d))
+
+-- The answer to a command line: the text of the request that it spells, or that it can't be read.
+pub data Answered (words : List (List ℕ)) (text : List ℕ) : Type 0 where
+  to : (q : Request) → Spelled words q → text ≡ text-of q → Answered words text
+  unread : Unspelled words → text ≡ refusal-line Unreadable → Answered words text
