@@ -7,4 +7,6 @@ pub mod rule;
 pub mod server;
 pub mod shortest;
 pub mod table;
+#[cfg(test)]
+mod tests;
 pub mod width;
