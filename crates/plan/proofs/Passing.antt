@@ -1,0 +1,45 @@
+-- What is known once no ground fits.
+use mathlib.Core.Path.{_≡_, refl, sym, ap, _∙_}
+use mathlib.Core.Bool.{Bool, true, false, cond}
+use Prim.Native.Nat.{ℕ, _^_, _≤_, _<_}
+use native.Mathlib.Omega.{arith}
+use lib.Dec.{ltb, eqb}
+use Rattle.std.specs.Results.{isOk}
+use Rattle.std.specs.declared.option.Option.{Option}
+use Rattle.std.specs.declared.option.Option.the-variants.{Some, None}
+use Rattle.std.specs.declared.result.Result.{Result}
+use Rattle.std.specs.declared.result.Result.the-variants.{Ok, Err}
+use Rattle.std.proofs.shelf.Ways.{tells}
+use Rattle.rules.specs.declared.refusal.Refusal.{Refusal}
+use Rattle.rules.specs.Grounds.{bad-width, limit-grounds}
+use Rattle.rules.specs.Refusals.{first, refusal}
+
+-- a ground that does not fit leaves it to those behind it
+pub past : (b : Bool) (why : Refusal) (o : Option Refusal) → None ≡ cond b (Some why) o → (b ≡ false) × (None ≡ o)
+past true why o e = let z : _≡_ {A = ℕ} 0 1 = cc in absurd (omega arith)
+past false why o e = (refl, e)
+
+-- a call with no refusal has an answer
+pub answered : {T : Type 0} (r : Result T Refusal) → refusal r ≡ None → isOk r ≡ true
+answered (Ok x) e = refl
+answered (Err why) e = let z : _≡_ {A = ℕ} 0 1 = cc in absurd (omega arith)
+
+-- a width, a target and a rule limit
+pub record Limited (W c n : ℕ) : Type 0 where
+  pub some : 1 ≤ W
+  pub most : W ≤ 24
+  pub target : c ≤ 2 ^ W
+  pub limit : 0 < n
+
+pub limited : (W c n : ℕ) → None ≡ first (limit-grounds W c n) → Limited W c n
+limited W c n e =
+    let p = past _ _ _ e in
+    let q = past _ _ _ (p .1) in
+    let r = past _ _ _ (q .1) in
+    let a : bad-width W ≡ false = p .0 in
+    let b : ltb (2 ^ W) c ≡ false = q .0 in
+    let d : eqb n 0 ≡ false = r .0 in
+    record { some = grind (arith, tells); most = grind (arith, tells); target = grind (arith, tells); limit = grind (arith, tells) }
+
+pub unlimited : (W c n : ℕ) → Limited W c n → first (limit-grounds W c n) ≡ None
+unlimited W c n l = grind (arith, tells, l .some, l .most, l .target, l .limit)

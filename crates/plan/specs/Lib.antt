@@ -1,0 +1,4 @@
+pub mod Even
+pub mod Measures
+pub mod Nearest
+pub mod Relative
