@@ -8,3 +8,6 @@ pub mod planner;
 mod reach;
 pub mod relative;
 mod sharing;
+
+#[cfg(test)]
+mod tests;
