@@ -1,5 +1,5 @@
 -- Lists by tag, one tag after the other.
-use mathlib.Core.Path.{_≡_, refl, sym, ap, _∙_, subst}
+use mathlib.Core.Path.{_≡_, refl, ap, _∙_, subst}
 use mathlib.Core.Bool.{Bool, true, false, _||_}
 use mathlib.Core.List.{List, [], _∷_}
 use Prim.Native.Nat.{ℕ, zero, suc, _+_, _≤_, _<_}
@@ -53,38 +53,12 @@ every-at P (Some y ∷ xs) zero x (h, k) e = let z : y ≡ x = cc in subst P z h
 every-at P (None ∷ xs) (suc i) x h e = every-at P xs i x h e
 every-at P (Some y ∷ xs) (suc i) x (h, k) e = every-at P xs i x k e
 
-module _ {X Y : Type 0} (P : X → Y → Type 0) where
-  pub both-some : (o : Option X) (q : Option Y) (x : X) (y : Y) → o ≡ Some x → q ≡ Some y → P x y → Both P o q
-  both-some o q x y e f p =
-      subst (λ (o : Option X). Both P o q) (sym e) (subst (λ (q : Option Y). Both P (Some x) q) (sym f) p)
-
-  pub both-none : (o : Option X) (q : Option Y) → o ≡ None → q ≡ None → Both P o q
-  both-none o q e f = subst (λ (o : Option X). Both P o q) (sym e) (subst (λ (q : Option Y). Both P None q) (sym f) tt)
-
-  pub some-both : (o : Option X) (q : Option Y) (y : Y) → Both P o q → q ≡ Some y → (x : X) × (o ≡ Some x) × P x y
-  some-both None None y b e = absurd (let z : _≡_ {A = ℕ} 0 1 = cc in omega arith)
-  some-both None (Some z) y b e = absurd b
-  some-both (Some x) None y b e = absurd b
-  some-both (Some x) (Some z) y b e = let w : z ≡ y = cc in (x, refl, subst (λ (v : Y). P x v) w b)
-
-  pub none-both : (o : Option X) (q : Option Y) → Both P o q → q ≡ None → o ≡ None
-  none-both None q b e = refl
-  none-both (Some x) None b e = absurd b
-  none-both (Some x) (Some z) b e = absurd (let z : _≡_ {A = ℕ} 0 1 = cc in omega arith)
-
-  pub each-at : (xs : List (Option X)) (ys : List (Option Y)) (i : ℕ) → Each P xs ys → Both P (getD xs i None) (getD ys i None)
-  each-at [] [] i h = tt
-  each-at [] (y ∷ ys) i h = absurd h
-  each-at (x ∷ xs) [] i h = absurd h
-  each-at (x ∷ xs) (y ∷ ys) zero (h, k) = h
-  each-at (x ∷ xs) (y ∷ ys) (suc i) (h, k) = each-at xs ys i k
-
-  pub each-by : (xs : List (Option X)) (ys : List (Option Y)) → length xs ≡ length ys
-      → ((i : ℕ) → i < length xs → Both P (getD xs i None) (getD ys i None)) → Each P xs ys
-  each-by [] [] e h = tt
-  each-by [] (y ∷ ys) e h = absurd (omega arith)
-  each-by (x ∷ xs) [] e h = absurd (omega arith)
-  each-by (x ∷ xs) (y ∷ ys) e h = (h 0 (omega arith), each-by xs ys (omega arith) (λ i l. h (suc i) (omega arith)))
+pub each-by : {X Y : Type 0} (P : X → Y → Type 0) (xs : List (Option X)) (ys : List (Option Y)) → length xs ≡ length ys
+    → ((i : ℕ) → i < length xs → Both P (getD xs i None) (getD ys i None)) → Each P xs ys
+each-by P [] [] e h = tt
+each-by P [] (y ∷ ys) e h = absurd (omega arith)
+each-by P (x ∷ xs) [] e h = absurd (omega arith)
+each-by P (x ∷ xs) (y ∷ ys) e h = (h 0 (omega arith), each-by P xs ys (omega arith) (λ i l. h (suc i) (omega arith)))
 
 module _ {X Y : Type 0} (f : X → Y) where
   pub by-tag-long : (xs : List (Option X)) → length (by-tag f xs) ≡ length xs

@@ -1,9 +1,8 @@
 -- The even measure is lawful.
-use Prim.Native.Nat.{ℕ}
 use native.Mathlib.Omega.{arith}
 use Rattle.plan.specs.Even.{even}
 use Rattle.plan.specs.Measures.{Lawful, dist}
-use Rattle.plan.proofs.Ranged.{Formula, small, ranged-lawful}
+use Rattle.plan.proofs.Ranged.{small, ranged-lawful}
 
 pub even-lawful : Lawful even
 unfolding even

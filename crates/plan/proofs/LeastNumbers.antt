@@ -18,12 +18,12 @@ pub leb-from-gt : (a b : ℕ) → b < a → leb a b ≡ false
 leb-from-gt a b h = grind (arith, tells)
 
 -- r is the least from k on
-pub record Least-from (p : ℕ → Bool) (k f r : ℕ) : Type 0 where
+pub record Least-from (p : ℕ → Bool) (k r : ℕ) : Type 0 where
   pub from : k ≤ r
   pub holds : p r ≡ true
   pub first : (j : ℕ) → k ≤ j → p j ≡ true → r ≤ j
 
-pub least-is : (p : ℕ → Bool) (k f : ℕ) → p (k + f) ≡ true → Least-from p k f (least p k f)
+pub least-is : (p : ℕ → Bool) (k f : ℕ) → p (k + f) ≡ true → Least-from p k (least p k f)
 unfolding least
 least-is p k zero h =
     let e : k + 0 ≡ k = omega arith in
@@ -33,14 +33,14 @@ least-is p k (suc f) h = go (p k) refl (λ q. least-is p (suc k) f q)
     e : k + suc f ≡ suc k + f
     e = omega arith
 
-    go : (b : Bool) → p k ≡ b → (p (suc k + f) ≡ true → Least-from p (suc k) f (least p (suc k) f))
-        → Least-from p k (suc f) (elim b [ true ↦ k | false ↦ least p (suc k) f ])
+    go : (b : Bool) → p k ≡ b → (p (suc k + f) ≡ true → Least-from p (suc k) (least p (suc k) f))
+        → Least-from p k (elim b [ true ↦ k | false ↦ least p (suc k) f ])
     go true q ih = record { from = omega arith; holds = q; first = λ j l t. l }
     go false q ih =
         let i = ih (subst (λ (x : ℕ). p x ≡ true) e h) in
         record { from = omega (arith, i .from); holds = i .holds; first = λ j l t. later i j l t (decLe j k) }
       where
-        later : Least-from p (suc k) f (least p (suc k) f) → (j : ℕ) → k ≤ j → p j ≡ true → Dec (j ≤ k) → least p (suc k) f ≤ j
+        later : Least-from p (suc k) (least p (suc k) f) → (j : ℕ) → k ≤ j → p j ≡ true → Dec (j ≤ k) → least p (suc k) f ≤ j
         later i j l t (no m) = i .first j (omega arith) t
         later i j l t (yes m) =
             let z : k ≡ j = omega arith in
@@ -65,15 +65,6 @@ least-at p k (suc f) r a b c d = go (decLe r k) (p k) refl (least-at p (suc k) f
         let w : false ≡ true = sym (c k (omega arith) (omega arith)) ∙ e in
         absurd (grind (arith, tells))
     go (no q) false e ih = ih (omega arith) (omega arith) (λ j l m. c j (omega arith) m) (λ l. d (omega arith))
-
-pub least-most : (p : ℕ → Bool) (k f : ℕ) → least p k f ≤ k + f
-unfolding least
-least-most p k zero = omega arith
-least-most p k (suc f) = go (p k) (least-most p (suc k) f)
-  where
-    go : (v : Bool) → least p (suc k) f ≤ suc k + f → elim v [ true ↦ k | false ↦ least p (suc k) f ] ≤ k + suc f
-    go true h = omega arith
-    go false h = omega arith
 
 least-ge : (p : ℕ → Bool) (k f : ℕ) → k ≤ least p k f
 unfolding least

@@ -1,5 +1,5 @@
 -- What one service needs, under any lawful measure.
-use mathlib.Core.Path.{_≡_, sym, subst}
+use mathlib.Core.Path.{_≡_, subst}
 use mathlib.Core.Bool.{true}
 use Prim.Native.Nat.{ℕ, _+_, _-_, _^_, _≤_, _<_}
 use native.Mathlib.Omega.{arith}
@@ -34,7 +34,7 @@ module _ (miss : Misses) (lawful : Lawful miss) (W : ℕ) (low : 1 ≤ W) (high 
       let s = nearest-one miss W c n d (nearest miss W c n) i (nearest-is miss W c n p) in
       subst (λ (x : ℕ). miss W c x ≤ e) s h
 
-  need-least : (c e : ℕ) → c ≤ 2 ^ W → Least-from (λ n. leb (miss W c (nearest miss W c n)) e) 1 (L W c - 1) (need miss W c e)
+  need-least : (c e : ℕ) → c ≤ 2 ^ W → Least-from (λ n. leb (miss W c (nearest miss W c n)) e) 1 (need miss W c e)
   unfolding need
   need-least c e h =
       let s : L W c ≡ 1 + (L W c - 1) = omega (arith, L-pos W c) in
@@ -80,13 +80,7 @@ module _ (miss : Misses) (lawful : Lawful miss) (W : ℕ) (low : 1 ≤ W) (high 
       omega (arith, i .short, need-first c e (nearest miss W c (need miss W c e)) h (i .weight) (need-miss c e h))
 
   pub given-is : (c e : ℕ) → c ≤ 2 ^ W → Given miss W e c (nearest miss W c (need miss W c e))
-  given-is c e h =
-      let s = need-exact c e h in
-      let d : ℕ = nearest miss W c (need miss W c e) in
-      record {
-        fewest = subst (λ (n : ℕ). Least (Reaches miss W c e) n) (sym s) (need-is c e h);
-        closest = subst (λ (n : ℕ). Nearest miss W c n d) (sym s) (need-nearest c e h);
-      }
+  given-is c e h = record { counted = need-exact c e h; closest = need-nearest c e h }
 
   -- one rule comes within 2 ^ 40, and never are more than 13 wanted
   pub need-one : (c : ℕ) → c ≤ 2 ^ W → need miss W c (2 ^ 40) ≡ 1

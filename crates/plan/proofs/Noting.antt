@@ -1,20 +1,19 @@
 -- What is noted for the services comes to what they need.
-use mathlib.Core.Path.{_≡_, refl, sym, ap, ap₂, _∙_, subst}
-use mathlib.Core.Bool.{Bool, true, false}
+use mathlib.Core.Path.{_≡_, refl, sym, ap, ap₂, _∙_}
 use mathlib.Core.List.{List, [], _∷_}
-use Prim.Native.Nat.{ℕ, zero, suc, _+_, _-_, _^_, _≤_, _<_}
+use Prim.Native.Nat.{ℕ, _+_, _-_, _^_, _≤_, _<_}
 use native.Mathlib.Omega.{arith}
 use lib.Dec.{leb}
-use lib.ListN.{length, getD}
+use lib.ListN.{getD}
 use Rattle.std.specs.declared.option.Option.{Option}
 use Rattle.std.specs.declared.option.Option.the-variants.{Some, None}
 use Rattle.plan.specs.declared.reach.Reach.{Reach}
-use Rattle.plan.specs.ByTag.{total, Each}
+use Rattle.plan.specs.ByTag.{Each}
 use Rattle.plan.specs.Measures.{Misses, Lawful}
-use Rattle.plan.specs.Nearest.{nearest, least, need}
+use Rattle.plan.specs.Nearest.{nearest, need}
 use Rattle.plan.specs.Plans.{Targets, needs, weights-for}
 use Rattle.plan.specs.Reached.{Noted, need-in, noted-needs, Noted-targets, noted-weights}
-use Rattle.plan.proofs.LeastNumbers.{least-at, least-most, least-mono, leb-from-le, le-from-leb, leb-from-gt}
+use Rattle.plan.proofs.LeastNumbers.{least-at, least-mono, leb-from-le, le-from-leb, leb-from-gt}
 use Rattle.plan.proofs.NeedLaws.{need-pos, need-miss, need-before, need-most}
 
 -- ---- one service
@@ -24,9 +23,6 @@ need-in-at row e n h f g =
     let i = least-at (λ k. leb (getD row k 0) e) 0 12 n (omega arith) (omega arith)
     (λ j l m. leb-from-gt (getD row j 0) e (f j m)) (λ l. leb-from-le (getD row n 0) e (g (omega arith))) in
     omega (arith, i)
-
-pub need-in-most : (row : List ℕ) (e : ℕ) → need-in row e ≤ 13
-need-in-most row e = omega (arith, least-most (λ n. leb (getD row n 0) e) 0 12)
 
 need-in-mono : (row : List ℕ) (e f : ℕ) → e ≤ f → need-in row f ≤ need-in row e
 need-in-mono row e f h =

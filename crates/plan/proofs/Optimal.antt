@@ -1,7 +1,7 @@
 -- The plan is what its words say, and no rival is better: under any lawful measure.
-use mathlib.Core.Path.{_≡_, refl, sym, ap, ap₂, _∙_}
-use mathlib.Core.List.{List, [], _∷_, reverse}
-use Prim.Native.Nat.{ℕ, _+_, _^_, _≤_, _<_}
+use mathlib.Core.Path.{_≡_, refl, ap, ap₂, _∙_}
+use mathlib.Core.List.{List, [], _∷_}
+use Prim.Native.Nat.{ℕ, _+_, _^_, _≤_}
 use native.Mathlib.Omega.{arith}
 use lib.Dec.{leb}
 use lib.ListN.{length}
@@ -20,7 +20,7 @@ use Rattle.plan.specs.ByTag.{total, by-tag, Every, Each}
 use Rattle.plan.specs.Measures.{Misses, Lawful}
 use Rattle.plan.specs.Nearest.{Least, Reaches, nearest, need}
 use Rattle.plan.specs.Plans.{services, Targets, needs, worst-miss, weights-for, rule-total, largest-miss, Given, Plan}
-use Rattle.plan.specs.Rivals.{Whole, Rival, rival-miss, tables, Best}
+use Rattle.plan.specs.Rivals.{Whole, rival-miss, tables, Best}
 use Rattle.plan.proofs.LeastNumbers.{least-is, leb-from-le, le-from-leb}
 use Rattle.plan.proofs.NeedLaws.{need-miss, need-is, need-first, need-nearest, need-exact, given-is, need-one}
 

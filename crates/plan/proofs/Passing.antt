@@ -5,28 +5,20 @@ use mathlib.Core.List.{List}
 use Prim.Native.Nat.{ℕ, _^_, _≤_, _<_}
 use native.Mathlib.Omega.{arith}
 use lib.Dec.{ltb, eqb}
-use Rattle.std.specs.Results.{isOk}
 use Rattle.std.specs.declared.option.Option.{Option}
 use Rattle.std.specs.declared.option.Option.the-variants.{Some, None}
-use Rattle.std.specs.declared.result.Result.{Result}
-use Rattle.std.specs.declared.result.Result.the-variants.{Ok, Err}
 use Rattle.std.proofs.shelf.Ways.{tells}
 use Rattle.rules.specs.declared.refusal.Refusal.{Refusal}
 use Rattle.rules.specs.Grounds.{bad-width, limit-grounds}
-use Rattle.rules.specs.Refusals.{first, refusal}
+use Rattle.rules.specs.Refusals.{first}
 use Rattle.plan.specs.Grounds.{plan-grounds}
-use Rattle.plan.specs.Plans.{services, beyond, Targets}
+use Rattle.plan.specs.Plans.{services, Targets}
 use Rattle.plan.proofs.ByTags.{none-above}
 
 -- a ground that does not fit leaves it to those behind it
 pub past : (b : Bool) (why : Refusal) (o : Option Refusal) → None ≡ cond b (Some why) o → (b ≡ false) × (None ≡ o)
 past true why o e = let z : _≡_ {A = ℕ} 0 1 = cc in absurd (omega arith)
 past false why o e = (refl, e)
-
--- a call with no refusal has an answer
-pub answered : {T : Type 0} (r : Result T Refusal) → refusal r ≡ None → isOk r ≡ true
-answered (Ok x) e = refl
-answered (Err why) e = let z : _≡_ {A = ℕ} 0 1 = cc in absurd (omega arith)
 
 -- a width, a target and a rule limit
 pub record Limited (W c n : ℕ) : Type 0 where
@@ -44,9 +36,6 @@ limited W c n e =
     let b : ltb (2 ^ W) c ≡ false = q .0 in
     let d : eqb n 0 ≡ false = r .0 in
     record { some = grind (arith, tells); most = grind (arith, tells); target = grind (arith, tells); limit = grind (arith, tells) }
-
-pub unlimited : (W c n : ℕ) → Limited W c n → first (limit-grounds W c n) ≡ None
-unlimited W c n l = grind (arith, tells, l .some, l .most, l .target, l .limit)
 
 -- a width, a capacity and targets
 pub record Admitted (W R : ℕ) (ts : List (Option ℕ)) : Type 0 where

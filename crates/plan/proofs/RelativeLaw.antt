@@ -7,7 +7,7 @@ use native.Mathlib.Decide.{decLe}
 use Rattle.std.proofs.shelf.Ways.{tells}
 use Rattle.plan.specs.Measures.{Lawful}
 use Rattle.plan.specs.Relative.{thousandths, excess, relative}
-use Rattle.plan.proofs.Ranged.{Formula, small, ranged-lawful}
+use Rattle.plan.proofs.Ranged.{small, ranged-lawful}
 
 -- ---- the rounding: a larger part has no smaller figure, and no figure is above 2 ^ 40
 

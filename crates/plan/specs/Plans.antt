@@ -53,10 +53,10 @@ largest-miss miss W (Some c ∷ ts) (Some d ∷ ds) = max (miss W c d) (largest-
 
 -- ---- in words
 
--- The weight d that a target c gets where the worst miss is e: its rules are as few as come within e of c, and it is the nearest with so many.
+-- The weight d that a target c is given where the worst miss is e: it has just as many rules as c needs, and is the nearest with so many.
 pub record Given (miss : Misses) (W e c d : ℕ) : Type 0 where
-  pub fewest : Least (Reaches miss W c e) (L W d)
-  pub closest : Nearest miss W c (L W d) d
+  pub counted : L W d ≡ need miss W c e
+  pub closest : Nearest miss W c (need miss W c e) d
 
 -- What makes weights ds with T rules the plan of targets ts, E being the worst miss. A need is the least number of rules that comes within e of a
 -- target; E is the least whole number at which the needs come to at most R; each service has the weight that it is given at E; no service misses

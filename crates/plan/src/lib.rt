@@ -8,6 +8,5 @@ pub mod planner;
 mod reach;
 pub mod relative;
 mod sharing;
-
 #[cfg(test)]
 mod tests;

@@ -29,7 +29,8 @@ impl Reach {
 
     // The least number of rules that misses by at most `limit`.
     pub(crate) fn need(&self, limit: u64) -> u32
-        ensures { λ r. ⌜ r ≡ need-in (now (self .entry) .misses) limit ⌝ }
+        ensures value { λ r. ⌜ r ≡ need-in (now (self .entry) .misses) limit ⌝ }
+        ensures most { λ r. ⌜ r ≤ 13 ⌝ }
     {
         for n in 0..12u32 {
             if self.misses[n as usize] <= limit {

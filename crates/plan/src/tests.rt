@@ -109,7 +109,16 @@ fn ends_are_exact() -> Result<(), Fail> {
 
 #[test]
 fn plan_refuses() -> Result<(), Fail> {
-    check_eq(plan(&Even, 25, 0, &two(1, 1)).err(), Some(Refusal::WidthOutOfRange))?;
-    check_eq(plan(&Even, 8, 0, &two(1, 257)).err(), Some(Refusal::BeyondWidth))?;
-    check_eq(plan(&Even, 8, 1, &two(1, 256)).err(), Some(Refusal::TooManyServices))
+    check_eq(
+        plan(&Even, 25, 0, &two(1, 1)).err(),
+        Some(Refusal::WidthOutOfRange),
+    )?;
+    check_eq(
+        plan(&Even, 8, 0, &two(1, 257)).err(),
+        Some(Refusal::BeyondWidth),
+    )?;
+    check_eq(
+        plan(&Even, 8, 1, &two(1, 256)).err(),
+        Some(Refusal::TooManyServices),
+    )
 }

@@ -1,4 +1,4 @@
-use mathlib.Core.Path.{_≡_, subst}
+use mathlib.Core.Path.{subst}
 use mathlib.Core.List.{List}
 use Prim.Native.Nat.{ℕ}
 use denote.Ref.{now}
@@ -7,7 +7,7 @@ use Rattle.std.proofs.shelf.Results.{err-from-errBy}
 use Rattle.plan.specs.Measures.{Misses, Lawful}
 use Rattle.plan.proofs.Finishing.{Finished, enough, finished}
 use Rattle.plan.proofs.Noting.{noted-targets}
-use Rattle.plan.proofs.Passing.{Admitted, admitted-as}
+use Rattle.plan.proofs.Passing.{admitted-as}
 use Rattle.plan.proofs.Worked.{figures}
 use Rattle.plan.proofs.planner.plan.Needs as need
 

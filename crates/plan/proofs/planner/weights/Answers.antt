@@ -1,5 +1,5 @@
-use mathlib.Core.Path.{_≡_, sym, _∙_}
-use Prim.Native.Nat.{ℕ, _^_, _≤_}
+use mathlib.Core.Path.{sym, _∙_}
+use Prim.Native.Nat.{_^_, _≤_}
 use denote.Ref.{now}
 use native.Mathlib.Omega.{arith}
 use Rattle.std.specs.declared.option.Option.the-variants.{None}
@@ -13,7 +13,7 @@ use Rattle.plan.proofs.planner.weights.Needs as need
 pub nearest-within-requires : need.nearest-within-requires
 nearest-within-requires g c κs = (
   every-at (λ r. r .target ≤ 2 ^ c .args .width .bits) (now (c .args .reaches)) (c .loop-i .i) (c .in-Some .reach) (c .pre) (c .in-Some .is),
-  omega (arith, c .need .ensures),
+  omega (arith, c .need .ensures .value),
 )
 
 pub returns : need.returns

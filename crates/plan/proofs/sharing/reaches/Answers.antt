@@ -1,10 +1,6 @@
-use mathlib.Core.Path.{_≡_, subst, sym, ap, _∙_}
-use mathlib.Core.Logic.{_≢_}
-use Prim.Native.Nat.{ℕ, _<_, _^_, _≤_}
+use Prim.Native.Nat.{_^_, _≤_}
 use native.Mathlib.Omega.{arith}
 use denote.Ref.{now}
-use lib.ListN.{length, length-set, getD}
-use lib.Seq.{getD-set-same, getD-set-other}
 use Rattle.plan.proofs.ByTags.{every-at, each-by}
 use Rattle.plan.proofs.sharing.reaches.Needs as need
 
