@@ -1,0 +1,13 @@
+pub mod ByTags
+pub mod EvenLaw
+pub mod Finishing
+pub mod LeastNumbers
+pub mod NearestLaws
+pub mod NeedLaws
+pub mod Noting
+pub mod Optimal
+pub mod Passing
+pub mod Picks
+pub mod Ranged
+pub mod RelativeLaw
+pub mod Worked

@@ -1,0 +1,10 @@
+pub mod ByTag
+pub mod Even
+pub mod Figures
+pub mod Grounds
+pub mod Measures
+pub mod Nearest
+pub mod Plans
+pub mod Reached
+pub mod Relative
+pub mod Rivals
