@@ -13,7 +13,7 @@ use Rattle.std.specs.Written.{decimal}
 use Rattle.std.proofs.shelf.Elements.{all-getD}
 use Rattle.std.proofs.shelf.Lists.{take-more, map-append, length-map, getD-map}
 use Rattle.shares.specs.declared.request.Request.{Request}
-use Rattle.shares.specs.declared.request.Request.the-variants.{Table}
+use Rattle.shares.specs.declared.request.Request.the-variants.{Table, Nearest}
 use Rattle.shares.specs.Requests.{spelling, Small, Spelled, Unspelled, NoNumbers}
 
 -- one word that is no number, and the words are no numbers
@@ -35,8 +35,9 @@ more-numbers f xs i x n ns h is e inv =
     ∙ sym (map-append decimal ns (n ∷ []))
 
 -- every request has an order and numbers behind it
-numbers-of : Request → List ℕ
+pub numbers-of : Request → List ℕ
 numbers-of (Table width weight) = width ∷ weight ∷ []
+numbers-of (Nearest width target limit) = width ∷ target ∷ limit ∷ []
 
 tail : List (List ℕ) → List (List ℕ)
 tail [] = []
@@ -45,27 +46,43 @@ tail (w ∷ ws) = ws
 spelled-numbers : (q : Request) (w : List ℕ) (ws : List (List ℕ)) → w ∷ ws ≡ spelling q → ws ≡ map decimal (numbers-of q)
 unfolding numbers-of tail
 spelled-numbers (Table width weight) w ws e = ap tail e
+spelled-numbers (Nearest width target limit) w ws e = ap tail e
 
 small-numbers : (q : Request) → Small q → All (λ n. n < 2 ^ 32) (numbers-of q)
 unfolding numbers-of
 small-numbers (Table width weight) (h, k) = (h, (k, tt))
+small-numbers (Nearest width target limit) (h, k, l) = (h, (k, (l, tt)))
 
 -- no words spell nothing
 pub no-words : {X : Type 0} (f : X → List ℕ) (xs : List X) → length xs ≡ 0 → Unspelled (map f xs)
 no-words f [] h (Table width weight) small e = let z : _≡_ {A = ℕ} 0 1 = cc in omega arith
+no-words f [] h (Nearest width target limit) small e = let z : _≡_ {A = ℕ} 0 1 = cc in omega arith
 no-words f (x ∷ xs) h q small e = omega arith
 
 -- the words behind the order have to be numbers
 pub no-request : (w : List ℕ) (ws : List (List ℕ)) → NoNumbers ws → Unspelled (w ∷ ws)
 no-request w ws h q small e = h (numbers-of q) (small-numbers q small) (spelled-numbers q w ws e)
 
--- the order `table` has two numbers behind it
-pub by-table : (order : List ℕ) (ns : List ℕ) (o : Option Request) → order ≡ codes "table"
-    → Cases o (length ns ≡ 2 → ⊥) (Spelled (codes "table" ∷ map decimal ns)) → Cases o (Unspelled (order ∷ map decimal ns)) (Spelled (order ∷ map decimal ns))
-unfolding numbers-of
-by-table order ns None is h =
-    λ q small e. h (sym (length-map ns decimal) ∙ ap length (spelled-numbers q order (map decimal ns) e) ∙ length-map (numbers-of q) decimal ∙ two q)
-  where
-    two : (q : Request) → length (numbers-of q) ≡ 2
-    two (Table width weight) = refl
-by-table order ns (Some q) is h = ap (λ (w : List ℕ). w ∷ map decimal ns) is ∙ h
+-- an order that has so many numbers behind it, and no other request has that order
+pub by-order : (name order : List ℕ) (ns : List ℕ) (k : ℕ) (o : Option Request) → order ≡ name
+    → ((q : Request) → name ∷ map decimal ns ≡ spelling q → length (numbers-of q) ≡ k)
+    → Cases o (length ns ≡ k → ⊥) (Spelled (name ∷ map decimal ns)) → Cases o (Unspelled (order ∷ map decimal ns)) (Spelled (order ∷ map decimal ns))
+by-order name order ns k None is only h =
+    λ q small e.
+    let s = sym (ap (λ (w : List ℕ). w ∷ map decimal ns) is) ∙ e in
+    h (sym (length-map ns decimal) ∙ ap length (spelled-numbers q name (map decimal ns) s) ∙ length-map (numbers-of q) decimal ∙ only q s)
+by-order name order ns k (Some q) is only h = ap (λ (w : List ℕ). w ∷ map decimal ns) is ∙ h
+
+head : List (List ℕ) → List ℕ
+head [] = []
+head (w ∷ ws) = w
+
+pub only-table : (ns : List ℕ) (q : Request) → codes "table" ∷ map decimal ns ≡ spelling q → length (numbers-of q) ≡ 2
+unfolding numbers-of head
+only-table ns (Table width weight) e = refl
+only-table ns (Nearest width target limit) e = let h : codes "table" ≡ codes "nearest" = ap head e in let z : _≡_ {A = ℕ} 5 7 = ap length h in absurd (omega arith)
+
+pub only-nearest : (ns : List ℕ) (q : Request) → codes "nearest" ∷ map decimal ns ≡ spelling q → length (numbers-of q) ≡ 3
+unfolding numbers-of head
+only-nearest ns (Table width weight) e = let h : codes "nearest" ≡ codes "table" = ap head e in let z : _≡_ {A = ℕ} 7 5 = ap length h in absurd (omega arith)
+only-nearest ns (Nearest width target limit) e = refl

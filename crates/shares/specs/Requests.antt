@@ -6,15 +6,17 @@ use lib.Chars.{codes}
 use Rattle.std.specs.shelf.Lists.{All}
 use Rattle.std.specs.Written.{decimal}
 use Rattle.shares.specs.declared.request.Request.{Request}
-use Rattle.shares.specs.declared.request.Request.the-variants.{Table}
+use Rattle.shares.specs.declared.request.Request.the-variants.{Table, Nearest}
 
 -- The words of a request, each a list of bytes.
 abbrev pub spelling : Request → List (List ℕ)
 spelling (Table width weight) = codes "table" ∷ decimal width ∷ decimal weight ∷ []
+spelling (Nearest width target limit) = codes "nearest" ∷ decimal width ∷ decimal target ∷ decimal limit ∷ []
 
 -- Its numbers are below 2 ^ 32.
 abbrev pub Small : Request → Type 0
 Small (Table width weight) = (width < 2 ^ 32) × (weight < 2 ^ 32)
+Small (Nearest width target limit) = (width < 2 ^ 32) × (target < 2 ^ 32) × (limit < 2 ^ 32)
 
 -- The words are those of q; they are those of no request.
 abbrev pub Spelled : List (List ℕ) → Request → Type 0

@@ -9,13 +9,17 @@ use Rattle.std.specs.declared.option.Option.the-variants.{Some, None}
 use Rattle.rules.specs.declared.refusal.Refusal.{Refusal}
 use Rattle.rules.specs.declared.refusal.Refusal.the-variants.{Unreadable}
 use Rattle.rules.specs.declared.rule.Rule.{Rule}
-use Rattle.rules.specs.Grounds.{weight-grounds}
+use Rattle.plan.specs.Even.{even}
+use Rattle.plan.specs.Measures.{Misses}
+use Rattle.plan.specs.Nearest.{nearest}
+use Rattle.plan.specs.Relative.{relative}
+use Rattle.rules.specs.Grounds.{weight-grounds, limit-grounds}
 use Rattle.rules.specs.Refusals.{refusal-number, first}
 use Rattle.rules.specs.Servers.{server-number}
 use Rattle.rules.specs.Shortest.{L}
 use Rattle.rules.specs.Tables.{table}
 use Rattle.shares.specs.declared.request.Request.{Request}
-use Rattle.shares.specs.declared.request.Request.the-variants.{Table}
+use Rattle.shares.specs.declared.request.Request.the-variants.{Table, Nearest}
 use Rattle.shares.specs.Requests.{Spelled, Unspelled}
 
 -- One rule: start, length and server.
@@ -39,8 +43,21 @@ abbrev pub table-answer : ℕ → ℕ → Option Refusal → List ℕ
 table-answer W d (Some why) = refusal-line why
 table-answer W d None = rule-lines (table W d) ++ sum-line d (L W d) 0
 
+-- The nearest weight under one measure, its miss, and the rules of its table.
+abbrev pub near-line : List ℕ → ℕ → ℕ → ℕ → List ℕ
+near-line name weight miss rules =
+    name ++ (codes " " ++ (decimal weight ++ (codes " miss " ++ (decimal miss ++ (codes " rules " ++ (decimal rules ++ codes "\n"))))))
+
+abbrev pub nearest-line : List ℕ → Misses → ℕ → ℕ → ℕ → List ℕ
+nearest-line name miss W c n = near-line name (nearest miss W c n) (miss W c (nearest miss W c n)) (L W (nearest miss W c n))
+
+abbrev pub nearest-answer : ℕ → ℕ → ℕ → Option Refusal → List ℕ
+nearest-answer W c n (Some why) = refusal-line why
+nearest-answer W c n None = nearest-line (codes "even") even W c n ++ nearest-line (codes "relative") relative W c n
+
 abbrev pub text-of : Request → List ℕ
 text-of (Table W d) = table-answer W d (first (weight-grounds W d))
+text-of (Nearest W c n) = nearest-answer W c n (first (limit-grounds W c n))
 
 -- The answer to a command line: the text of the request that it spells, or that it can't be read.
 pub data Answered (words : List (List ℕ)) (text : List ℕ) : Type 0 where

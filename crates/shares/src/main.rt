@@ -1,6 +1,9 @@
 // A what-if calculator for one service on the command line.
+mod nearest;
+mod refused;
 mod report;
 mod request;
+mod tables;
 
 use report::answer;
 use std::env;

@@ -17,6 +17,8 @@ use text::number::read_number;
 pub enum Request {
     // The table of a width and a weight.
     Table(u32, u32),
+    // The nearest weights of a width, a target and a rule limit.
+    Nearest(u32, u32, u32),
 }
 
 // The request that the words spell, if they spell one.
@@ -37,6 +39,7 @@ fn request_of(order: &str, numbers: &[u32]) -> Option<Request>
 {
     match order {
         "table" => table_of(numbers),
+        "nearest" => nearest_of(numbers),
         _ => None,
     }
 }
@@ -47,6 +50,16 @@ fn table_of(numbers: &[u32]) -> Option<Request>
 {
     match numbers {
         [width, weight] => Some(Request::Table(*width, *weight)),
+        _ => None,
+    }
+}
+
+// A width, a target and a rule limit.
+fn nearest_of(numbers: &[u32]) -> Option<Request>
+    ensures { λ r. ⌜ Cases r (length (now (numbers .entry)) ≡ 3 → ⊥) (Spelled (codes "nearest" ∷ map decimal (now (numbers .entry)))) ⌝ }
+{
+    match numbers {
+        [width, target, limit] => Some(Request::Nearest(*width, *target, *limit)),
         _ => None,
     }
 }

@@ -10,7 +10,7 @@ use Rattle.rules.specs.declared.rule.Rule.{Rule}
 use Rattle.rules.specs.declared.server.Server.the-variants.{One}
 use Rattle.shares.specs.Texts.{rule-line, rule-lines}
 use Rattle.shares.proofs.Lines.{lines-more}
-use Rattle.shares.proofs.report.rules_text.Needs as need
+use Rattle.shares.proofs.tables.rules_text.Needs as need
 
 pub loop-rule-again : need.loop-rule-again
 loop-rule-again c =

@@ -6,7 +6,7 @@ use lib.Chars.{codes}
 use Rattle.std.specs.Of.String.{string-bytes}
 use Rattle.std.specs.Vec.{made}
 use Rattle.std.specs.Written.{decimal}
-use Rattle.shares.proofs.report.rule_text.Needs as need
+use Rattle.shares.proofs.tables.rule_text.Needs as need
 
 pub returns : need.returns
 returns c =

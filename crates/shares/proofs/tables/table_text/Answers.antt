@@ -9,7 +9,7 @@ use Rattle.rules.specs.declared.rule.Rule.{Rule}
 use Rattle.rules.proofs.Fewness.{L-most}
 use Rattle.shares.specs.Texts.{rule-lines, table-answer}
 use Rattle.shares.proofs.Counting.{taken, back-splits, back-long, back-sum}
-use Rattle.shares.proofs.report.table_text.Needs as need
+use Rattle.shares.proofs.tables.table_text.Needs as need
 
 pub counted-given-requires : need.counted-given-requires
 counted-given-requires c κs =

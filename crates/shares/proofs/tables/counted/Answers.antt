@@ -6,7 +6,7 @@ use Rattle.std.specs.declared.option.Option.the-variants.{Some, None}
 use Rattle.std.proofs.shelf.Results.{cases-at-none}
 use Rattle.rules.proofs.Blocks.{covered-none}
 use Rattle.shares.proofs.Counting.{countable}
-use Rattle.shares.proofs.report.counted.Needs as need
+use Rattle.shares.proofs.tables.counted.Needs as need
 
 pub unreachable-requires : need.unreachable-requires
 unreachable-requires c κs =

@@ -3,7 +3,7 @@ use mathlib.Core.List.{List, [], _∷_, _++_, append-assoc}
 use Rattle.rules.specs.declared.rule.Rule.{Rule}
 use Rattle.rules.specs.Walk.{to-come}
 use Rattle.std.specs.Of.Vec.{vec-items}
-use Rattle.shares.proofs.report.listed.Needs as need
+use Rattle.shares.proofs.tables.listed.Needs as need
 
 pub loop-rule-again : need.loop-rule-again
 loop-rule-again c =

@@ -6,7 +6,7 @@ use lib.Chars.{codes}
 use Rattle.std.specs.Of.String.{string-bytes}
 use Rattle.std.specs.Vec.{made}
 use Rattle.std.specs.Written.{decimal}
-use Rattle.shares.proofs.report.refusal_text.Needs as need
+use Rattle.shares.proofs.refused.refusal_text.Needs as need
 
 pub returns : need.returns
 returns c =
