@@ -15,10 +15,11 @@ use Rattle.plan.specs.Nearest.{Nearest, Least, Reaches, nearest, least, need}
 abbrev pub services : List (Option ℕ) → ℕ
 services ts = total (λ c. 1) ts
 
--- Some target is above n, and none is above 2 ^ W.
+-- Some target is above n.
 abbrev pub beyond : ℕ → List (Option ℕ) → Bool
 beyond n ts = any (λ c. ltb n c) ts
 
+-- No target is above 2 ^ W.
 abbrev pub Targets : ℕ → List (Option ℕ) → Type 0
 Targets W ts = Every (λ c. c ≤ 2 ^ W) ts
 

@@ -22,9 +22,10 @@ need-in misses e = 1 + least (λ n. leb (getD misses n 0) e) 0 12
 abbrev pub noted-needs : List (Option Reach) → ℕ → ℕ
 noted-needs rs e = total (λ r. need-in (r .misses) e) rs
 
--- What they are given for it: each the nearest weight with as many rules as it needs.
+-- No target noted is above 2 ^ W.
 abbrev pub Noted-targets : ℕ → List (Option Reach) → Type 0
 Noted-targets W rs = Every (λ r. r .target ≤ 2 ^ W) rs
 
+-- The nearest weights with as many rules as each service needs to miss by at most e.
 abbrev pub noted-weights : Misses → ℕ → ℕ → List (Option Reach) → List (Option ℕ)
 noted-weights miss W e rs = by-tag (λ r. nearest miss W (r .target) (need-in (r .misses) e)) rs

@@ -3,7 +3,7 @@ ghost use mathlib.Core.Path.{_≡_};
 ghost use Rattle.std.specs.Vec.{made};
 ghost use Rattle.rules.specs.Refusals.{first, refusal};
 ghost use Rattle.plan.specs.Grounds.{plan-grounds};
-ghost use Rattle.plan.specs.Plans.{services as how-many, beyond as some-beyond};
+ghost use Rattle.plan.specs.Plans.{services, beyond};
 use rules::refusal::Refusal;
 use rules::width::Width;
 
@@ -28,7 +28,7 @@ pub(crate) fn admit(
 
 // Whether some target is above the limit.
 fn beyond(targets: &[Option<u32>; 64], limit: u32) -> bool
-    ensures { λ r. ⌜ r ≡ some-beyond limit (now (targets .entry)) ⌝ }
+    ensures { λ r. ⌜ r ≡ beyond limit (now (targets .entry)) ⌝ }
 {
     for target in targets.iter() {
         if let Some(target) = target {
@@ -41,7 +41,7 @@ fn beyond(targets: &[Option<u32>; 64], limit: u32) -> bool
 }
 
 fn services(targets: &[Option<u32>; 64]) -> u32
-    ensures { λ r. ⌜ r ≡ how-many (now (targets .entry)) ⌝ }
+    ensures { λ r. ⌜ r ≡ services (now (targets .entry)) ⌝ }
 {
     let mut count = 0;
     for target in targets.iter() {

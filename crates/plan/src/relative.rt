@@ -1,6 +1,6 @@
 // The relative measure.
 ghost use mathlib.Core.Path.{_≡_};
-ghost use Rattle.plan.specs.Relative.{relative, thousandths as in-thousandths};
+ghost use Rattle.plan.specs.Relative.{relative, thousandths};
 use crate::measure::FARTHEST;
 use crate::measure::Measure;
 use crate::measure::addresses;
@@ -27,7 +27,7 @@ pub impl Measure for Relative as RelativeMeasure {
 }
 
 fn thousandths(part: u32, whole: u32) -> u64
-    ensures { λ r. ⌜ r ≡ in-thousandths part whole ⌝ }
+    ensures { λ r. ⌜ r ≡ thousandths part whole ⌝ }
 {
     if whole == 0 {
         return FARTHEST;
