@@ -1,0 +1,4 @@
+pub mod Keys
+pub mod Holding
+pub mod Looks
+pub mod Writes
