@@ -16,6 +16,10 @@ use Rattle.memory.specs.declared.key.KeyRule.{KeyRule}
 abbrev pub Held : Type 0
 Held = ℕ → ℕ → Option Server
 
+-- The server at a prefix that was handed in.
+abbrev pub at : Held → Prefix → Option Server
+at held p = held (p .value) (p .length)
+
 abbrev pub same-prefix : Prefix → ℕ → ℕ → Bool
 same-prefix p v l = eqb (p .value) v && eqb (p .length) l
 

@@ -2,3 +2,4 @@ pub mod Keys
 pub mod Holding
 pub mod Looks
 pub mod Writes
+pub mod Rows

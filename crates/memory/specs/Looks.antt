@@ -15,9 +15,9 @@ pub record LongestMatch (held : Held) (key v l : ℕ) (s : Server) : Type 0 wher
   pub none-longer : (w k : ℕ) → l < k → Covers w k key → held w k ≡ None
 
 -- A look answers the server of the longest match, and none only where no held prefix covers the key.
-abbrev pub Answers : Held → ℕ → Option Server → Type 0
-Answers held key None = (v l : ℕ) → Covers v l key → held v l ≡ None
-Answers held key (Some s) = (v : ℕ) × (l : ℕ) × LongestMatch held key v l s
+abbrev pub Answered : Held → ℕ → Option Server → Type 0
+Answered held key None = (v l : ℕ) → Covers v l key → held v l ≡ None
+Answered held key (Some s) = (v : ℕ) × (l : ℕ) × LongestMatch held key v l s
 
 -- The first answer from the length n down.
 unfoldable pub down-from : ℕ → (ℕ → Option Server) → Option Server

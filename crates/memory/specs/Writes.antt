@@ -16,12 +16,9 @@ use Rattle.rules.specs.Refusals.{Ground, _when_, first, refusal}
 use Rattle.memory.specs.declared.key.Prefix.{Prefix}
 use Rattle.memory.specs.declared.key.KeyRule.{KeyRule}
 use Rattle.memory.specs.Keys.{formed}
-use Rattle.memory.specs.Holding.{Held, same-prefix}
+use Rattle.memory.specs.Holding.{Held, at, same-prefix}
 
--- The server at a prefix that was handed in, and whether that prefix breaks its layout.
-abbrev pub at : Held → Prefix → Option Server
-at held p = held (p .value) (p .length)
-
+-- Whether a prefix that was handed in breaks its layout.
 abbrev pub broken : Prefix → Bool
 broken p = not (formed (p .value) (p .length))
 

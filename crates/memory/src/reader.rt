@@ -6,9 +6,8 @@ ghost use Rattle.std.specs.Options.{isSome};
 ghost use Rattle.std.specs.declared.option.Option.{Option};
 ghost use Rattle.rules.specs.declared.server.Server.{Server};
 ghost use Rattle.memory.specs.Keys.{formed};
-ghost use Rattle.memory.specs.Holding.{Counted};
-ghost use Rattle.memory.specs.Looks.{longest, Answers};
-ghost use Rattle.memory.specs.Writes.{at};
+ghost use Rattle.memory.specs.Holding.{at, Counted};
+ghost use Rattle.memory.specs.Looks.{longest, Answered};
 use crate::key::Prefix;
 use rules::server::Server;
 
@@ -29,7 +28,7 @@ pub trait Reader {
     // The server of the longest match of a key, or none.
     fn look(&self, key: u32) -> Option<Server>
         ensures value { λ r. ⌜ r ≡ longest («held_at» (now (self .entry))) key ⌝ }
-        ensures answers { λ r. ⌜ Answers («held_at» (now (self .entry))) key r ⌝ };
+        ensures best { λ r. ⌜ Answered («held_at» (now (self .entry))) key r ⌝ };
 
     // The server at one exact prefix, or none; none, too, at a prefix that breaks its layout, since none such is held.
     fn held(&self, prefix: Prefix) -> Option<Server>
