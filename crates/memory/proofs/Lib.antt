@@ -6,3 +6,6 @@ pub mod Counting
 pub mod Writing
 pub mod RowLaws
 pub mod RowLoops
+pub mod Halves
+pub mod Levels
+pub mod TrieLaws

@@ -3,3 +3,4 @@ pub mod Holding
 pub mod Looks
 pub mod Writes
 pub mod Rows
+pub mod Tries

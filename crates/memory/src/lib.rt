@@ -2,5 +2,6 @@
 pub mod key;
 pub mod reader;
 mod row;
+mod trie;
 pub mod rule_memory;
 pub mod slots;
