@@ -18,7 +18,7 @@ use Rattle.memory.specs.declared.key.Prefix.{Prefix}
 use Rattle.memory.specs.declared.trie.Trie.{Trie}
 use Rattle.memory.specs.declared.trie.Trie.the-variants.{Empty, Node′}
 use Rattle.memory.specs.Keys.{cut, formed}
-use Rattle.memory.specs.Holding.{same-prefix}
+use Rattle.memory.specs.Holding.{at, same-prefix}
 use Rattle.memory.specs.Looks.{longest, down-from}
 use Rattle.memory.specs.Writes.{written}
 use Rattle.memory.specs.Tries.{half, at-bits, in-trie, look-in, Within, is-node, nodes, rules, neat, ready, spares}
@@ -180,11 +180,8 @@ trie-formed t v l e = by (formed v l) refl e
     by true f e = refl
     by false f e = absurd (false≢true e)
 
-pub trie-at : (t : Trie) (v l : ℕ) (o : Option Server) → formed v l ≡ true → o ≡ at-bits t 32 l v → in-trie t v l ≡ o
-trie-at t v l o f e = cond-true (formed v l) (at-bits t 32 l v) None f ∙ sym e
-
-pub trie-broken : (t : Trie) (v l : ℕ) → formed v l ≡ false → in-trie t v l ≡ None
-trie-broken t v l f = cond-false (formed v l) (at-bits t 32 l v) None f
+pub trie-at : (t : Trie) (p : Prefix) (o : Option Server) → formed (p .value) (p .length) ≡ true → o ≡ at-bits t 32 (p .length) (p .value) → at (in-trie t) p ≡ o
+trie-at t p o f e = cond-true (formed (p .value) (p .length)) (at-bits t 32 (p .length) (p .value)) None f ∙ sym e
 
 pub trie-none : (t : Trie) → is-node t ≡ false → (v l : ℕ) → in-trie t v l ≡ None
 trie-none Empty e v l = by (formed v l)

@@ -1,7 +1,8 @@
 // Memories of prefix rules over keys of 32 bits.
+pub mod branches;
 pub mod key;
 pub mod reader;
 mod row;
-mod trie;
 pub mod rule_memory;
 pub mod slots;
+mod trie;
