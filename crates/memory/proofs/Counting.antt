@@ -124,12 +124,15 @@ module _ {h h′ : Held} {n : ℕ} (p : Prefix) (o : Option Server) (all : Count
       by w k true = refl
       by w k false = all .exact w k
 
+pub same-self : (p : Prefix) → same-prefix p (p .value) (p .length) ≡ true
+same-self p = and-from _ _ (eq-eqb (p .value) (p .value) refl) (eq-eqb (p .length) (p .length) refl)
+
 -- prefixes that are as many as the others, and among them, are all of them
 pub none-other : (ps qs : List Prefix) → apart ps ≡ true → apart qs ≡ true → length ps ≡ length qs → ((w k : ℕ) → among ps w k ≡ true → among qs w k ≡ true) → (w k : ℕ) → among qs w k ≡ true → among ps w k ≡ true
 none-other [] [] a b e sub w k h = h
 none-other [] (q ∷ qs) a b e sub w k h = absurd (omega arith)
 none-other (p ∷ ps) qs a b e sub w k h =
-    let first : among qs (p .value) (p .length) ≡ true = sub (p .value) (p .length) (or-left _ _ (and-from _ _ (eq-eqb (p .value) (p .value) refl) (eq-eqb (p .length) (p .length) refl))) in
+    let first : among qs (p .value) (p .length) ≡ true = sub (p .value) (p .length) (or-left _ _ (same-self p)) in
     let short = length-without (p .value) (p .length) qs first in
     by (none-other ps (without (p .value) (p .length) qs) (and-parts _ _ a .1) (apart-without (p .value) (p .length) qs b) (omega (arith, short))
     (λ x y i. among-without (p .value) (p .length) qs x y b ∙ left-in x y i (same-prefix p x y) refl) w k) (same-prefix p w k) refl
@@ -151,3 +154,22 @@ held-among h n ps all once many sub v l e = by (among ps v l) refl
     by false f =
         absurd (∥∥₁-elim all ⊥-prop (λ (a : Counted h n). both-ways (among ps v l) f
         (none-other ps (a .prefixes) once (a .once) (many ∙ sym (a .many)) (λ w k i. sym (a .exact w k) ∙ sub w k i) v l (sym (a .exact v l) ∙ e))))
+
+-- two lists without repetition that name the same prefixes are as long as each other
+pub same-length : (ps qs : List Prefix) → apart ps ≡ true → apart qs ≡ true → ((w k : ℕ) → among ps w k ≡ among qs w k) → length ps ≡ length qs
+same-length [] [] a b e = refl
+same-length [] (q ∷ qs) a b e = absurd (false≢true (e (q .value) (q .length) ∙ or-left _ _ (same-self q)))
+same-length (p ∷ ps) qs a b e =
+    let first : among qs (p .value) (p .length) ≡ true = sym (e (p .value) (p .length)) ∙ or-left _ _ (same-self p) in
+    let short = length-without (p .value) (p .length) qs first in
+    let rest = same-length ps (without (p .value) (p .length) qs) (and-parts _ _ a .1) (apart-without (p .value) (p .length) qs b) (λ w k. by w k (same-prefix p w k) refl ∙ sym (among-without (p .value) (p .length) qs w k b)) in
+    omega (arith, short, rest)
+  where
+    by : (w k : ℕ) (c : Bool) → same-prefix p w k ≡ c → among ps w k ≡ cond c false (among qs w k)
+    by w k true f = sym (among-at ps (p .value) (p .length) w k f) ∙ not-true _ (and-parts _ _ a .0)
+    by w k false f = ap (λ c. c || among ps w k) (sym f) ∙ e w k
+
+-- the count of a set is one number
+pub count-is : (h : Held) (n : ℕ) (ps : List Prefix) → ∥ Counted h n ∥₁ → apart ps ≡ true → ((v l : ℕ) → isSome (h v l) ≡ among ps v l) → (length ps ≡ n → ⊥) → ⊥
+count-is h n ps all once exact other =
+    ∥∥₁-elim all ⊥-prop (λ (a : Counted h n). other (same-length ps (a .prefixes) once (a .once) (λ w k. sym (exact w k) ∙ a .exact w k) ∙ a .many))

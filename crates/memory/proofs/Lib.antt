@@ -9,3 +9,4 @@ pub mod RowLoops
 pub mod Halves
 pub mod Levels
 pub mod TrieLaws
+pub mod Exact

@@ -2,6 +2,7 @@
 use Prim.Native.Nat.{ℕ}
 use mathlib.Core.Path.{_≡_, refl, sym, ap, _∙_}
 use mathlib.Core.Bool.{Bool, true, false, cond, _&&_, _||_}
+use mathlib.Core.List.{List, [], _∷_}
 use lib.Dec.{eqb}
 use Rattle.std.proofs.shelf.Tests.{and-parts, and-from, eqb-true, eq-eqb, false≢true, both-ways}
 use Rattle.std.specs.Options.{isSome}
@@ -9,7 +10,8 @@ use Rattle.std.specs.declared.option.Option.{Option}
 use Rattle.std.specs.declared.option.Option.the-variants.{Some, None}
 use Rattle.rules.specs.declared.server.Server.{Server}
 use Rattle.memory.specs.declared.key.Prefix.{Prefix}
-use Rattle.memory.specs.Holding.{same-prefix}
+use Rattle.memory.specs.declared.key.KeyRule.{KeyRule}
+use Rattle.memory.specs.Holding.{same-prefix, among, prefixes-of, listed}
 
 pub some-or : (b : Bool) (s : Server) (o : Option Server) (t : Bool) → isSome o ≡ t → isSome (cond b (Some s) o) ≡ (b || t)
 some-or true s o t e = refl
@@ -47,3 +49,8 @@ same-both p q w k e f =
     let s = and-parts (eqb (p .value) w) (eqb (p .length) k) e in
     let t = and-parts (eqb (q .value) w) (eqb (q .length) k) f in
     and-from _ _ (eq-eqb _ _ (eqb-true _ _ (s .0) ∙ sym (eqb-true _ _ (t .0)))) (eq-eqb _ _ (eqb-true _ _ (s .1) ∙ sym (eqb-true _ _ (t .1))))
+
+-- a list of rules has a server at just the prefixes that it names
+pub listed-among : (rs : List KeyRule) (v l : ℕ) → isSome (listed rs v l) ≡ among (prefixes-of rs) v l
+listed-among [] v l = refl
+listed-among (r ∷ rs) v l = some-or (same-prefix (r .prefix) v l) (r .server) (listed rs v l) (among (prefixes-of rs) v l) (listed-among rs v l)

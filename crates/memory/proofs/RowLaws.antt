@@ -19,14 +19,13 @@ use Rattle.memory.specs.Keys.{formed, Covers, cut}
 use Rattle.memory.specs.Holding.{same-prefix, among, apart, Counted}
 use Rattle.memory.specs.Looks.{down-from}
 use Rattle.memory.specs.Writes.{written}
-use Rattle.memory.specs.Rows.{row-prefixes, falling, named, in-rows, row-of, place-of, matches, first-match}
+use Rattle.memory.specs.Rows.{rules-in, row-prefixes, falling, named, in-rows, row-of, place-of, matches, first-match}
 use Rattle.memory.proofs.Covering.{formed-parts, covers-cut, cut-covers}
 use Rattle.memory.proofs.DownFrom.{down-cong, down-none, down-hit, down-skip}
-use Rattle.memory.proofs.Prefixes.{some-or, none-from, turn, off-unless, same-sym, same-as, same-both}
+use Rattle.memory.proofs.Prefixes.{some-or, none-from, turn, off-unless, same-sym, same-as, same-both, listed-among}
 
 pub rows-among : (rs : List Row) (v l : ℕ) → isSome (in-rows rs v l) ≡ among (row-prefixes rs) v l
-rows-among [] v l = refl
-rows-among (r ∷ rs) v l = some-or (named r v l) (r .rule .server) (in-rows rs v l) (among (row-prefixes rs) v l) (rows-among rs v l)
+rows-among rs v l = listed-among (rules-in rs) v l
 
 formed-by : (r : Row) (v l : ℕ) (o : Option Server) (b : Bool) → named r v l ≡ b → (isSome o ≡ true → formed v l ≡ true) → isSome (cond b (Some (r .rule .server)) o) ≡ true → formed v l ≡ true
 formed-by r v l o true e ih h =

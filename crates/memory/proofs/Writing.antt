@@ -5,7 +5,7 @@ use mathlib.Core.Bool.{Bool, true, false, cond, not, _&&_}
 use mathlib.Core.List.{List, [], _∷_}
 use native.Mathlib.Omega.{arith}
 use lib.Dec.{eqb, leb, ltb}
-use Rattle.std.proofs.shelf.Tests.{and-parts, and-from, and-left, and-right, le-leb, lt-leb, lt-ltb, le-ltb, eqb-true}
+use Rattle.std.proofs.shelf.Tests.{and-parts, and-from, and-left, and-right, le-leb, lt-leb, lt-ltb, le-ltb, eqb-true, both-ways}
 use Rattle.std.specs.Options.{isSome}
 use Rattle.std.specs.Results.{isOk}
 use Rattle.std.specs.declared.option.Option.{Option}
@@ -84,6 +84,20 @@ module _ {T : Type 0} {h h′ : Held} {n n′ : ℕ} (p : Prefix) where
       unwritten v l true true i j = sym (ap (λ x. h x (p .length)) (eqb-true (p .value) v i) ∙ ap (h v) (eqb-true (p .length) l j)) ∙ o
       unwritten v l true false i j = refl
       unwritten v l false b i j = refl
+
+-- refused or not, after a remove nothing is held at its prefix, and all else is as it was
+pub remove-after : {T : Type 0} {h h′ : Held} {n n′ : ℕ} (p : Prefix) (r : Result T Refusal) → Removed h h′ n n′ p r
+    → ((v l : ℕ) → isSome (h v l) ≡ true → formed v l ≡ true) → (v l : ℕ) → h′ v l ≡ written h p None v l
+remove-after p (Ok x) done layout v l = done .holds v l
+remove-after {h = h} p (Err why) done layout v l = done .holds v l ∙ by (same-prefix p v l) refl (formed (p .value) (p .length)) refl (h v l) refl
+  where
+    by : (b : Bool) → same-prefix p v l ≡ b → (f : Bool) → formed (p .value) (p .length) ≡ f → (o : Option Server) → h v l ≡ o → o ≡ cond b None o
+    by false eb f ef o eo = refl
+    by true eb f ef None eo = refl
+    by true eb true ef (Some s) eo = absurd (let z : Some why ≡ None = done .refused ∙ ap (λ y. first ((BrokenLayout when not y) ∷ [])) ef in let c : _≡_ {A = ℕ} 0 1 = cc in omega arith)
+    by true eb false ef (Some s) eo =
+        let t = and-parts (eqb (p .value) v) (eqb (p .length) l) eb in
+        absurd (both-ways _ ef (ap (λ x. formed x (p .length)) (eqb-true (p .value) v (t .0)) ∙ ap (formed v) (eqb-true (p .length) l (t .1)) ∙ layout v l (ap isSome eo)))
 
 module _ {T : Type 0} {h h′ : Held} {n n′ most most′ : ℕ} (ceiling asked : ℕ) where
   pub fit-refused : ceiling < asked → ((v l : ℕ) → h′ v l ≡ h v l) → n′ ≡ n → most′ ≡ most → Fitted {T = T} ceiling asked h h′ n n′ most most′ (Err AboveCeiling)

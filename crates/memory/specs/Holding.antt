@@ -9,6 +9,7 @@ use Rattle.std.specs.Options.{isSome}
 use Rattle.std.specs.declared.option.Option.{Option}
 use Rattle.std.specs.declared.option.Option.the-variants.{Some, None}
 use Rattle.rules.specs.declared.server.Server.{Server}
+use Rattle.rules.specs.Servers.{server-number}
 use Rattle.memory.specs.declared.key.Prefix.{Prefix}
 use Rattle.memory.specs.declared.key.KeyRule.{KeyRule}
 
@@ -48,3 +49,18 @@ prefixes-of (r ∷ rs) = r .prefix ∷ prefixes-of rs
 abbrev pub listed : List KeyRule → Held
 listed [] v l = None
 listed (r ∷ rs) v l = cond (same-prefix (r .prefix) v l) (Some (r .server)) (listed rs v l)
+
+-- A reader holds exactly the rules of a list: no prefix stands twice in the list, and at every prefix the reader has what the list says.
+pub record Exactly (held : Held) (rules : List KeyRule) : Type 0 where
+  pub once : apart (prefixes-of rules) ≡ true
+  pub exact : (v l : ℕ) → held v l ≡ listed rules v l
+
+-- Whether a server is the one of an answer.
+abbrev pub same-server : Option Server → Server → Bool
+same-server None s = false
+same-server (Some t) s = eqb (server-number t) (server-number s)
+
+-- Whether each rule of a list is held.
+abbrev pub all-held : Held → List KeyRule → Bool
+all-held held [] = true
+all-held held (r ∷ rs) = same-server (at held (r .prefix)) (r .server) && all-held held rs

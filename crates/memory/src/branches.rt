@@ -99,16 +99,26 @@ pub impl RuleMemory for Branches as BranchesMemory {
         }
         match self.root.held(32, prefix.value, prefix.length) {
             Some(_) => {
-                self.root
-                    .insert(&mut self.spare, 32, prefix.value, prefix.length, rule.server);
+                self.root.insert(
+                    &mut self.spare,
+                    32,
+                    prefix.value,
+                    prefix.length,
+                    rule.server,
+                );
                 Ok(())
             }
             None => {
                 if self.count >= self.capacity {
                     return Err(Refusal::MemoryFull);
                 }
-                self.root
-                    .insert(&mut self.spare, 32, prefix.value, prefix.length, rule.server);
+                self.root.insert(
+                    &mut self.spare,
+                    32,
+                    prefix.value,
+                    prefix.length,
+                    rule.server,
+                );
                 self.count += 1;
                 Ok(())
             }

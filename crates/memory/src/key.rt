@@ -2,6 +2,7 @@
 ghost use mathlib.Core.Path.{_≡_};
 ghost use Prim.Native.Nat.{_-_, _^_, _≤_};
 ghost use Rattle.memory.specs.Keys.{formed};
+ghost use Rattle.memory.specs.Holding.{same-prefix};
 use rules::server::Server;
 use rules::server::ServerDebug;
 use rules::server::ServerPartialEq;
@@ -37,5 +38,12 @@ impl Prefix {
         ensures { λ r. ⌜ r ≡ formed (self .value) (self .length) ⌝ }
     {
         self.length <= 32 && u64::from(self.value) % breadth(self.length) == 0
+    }
+
+    // Whether both are one prefix.
+    pub fn is(self, other: Prefix) -> bool
+        ensures { λ r. ⌜ r ≡ same-prefix self (other .value) (other .length) ⌝ }
+    {
+        self.value == other.value && self.length == other.length
     }
 }

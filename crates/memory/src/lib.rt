@@ -1,5 +1,6 @@
 // Memories of prefix rules over keys of 32 bits.
 pub mod branches;
+pub mod contents;
 pub mod key;
 pub mod reader;
 mod row;

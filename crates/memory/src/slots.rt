@@ -9,7 +9,7 @@ ghost use Rattle.std.specs.declared.option.Option.the-variants.{Some, None};
 ghost use Rattle.memory.specs.Keys.{formed};
 ghost use Rattle.memory.specs.Holding.{apart, at};
 ghost use Rattle.memory.specs.Writes.{written, Fitted, Fresh};
-ghost use Rattle.memory.specs.Rows.{row-prefixes, falling, in-rows, row-of, place-of, named, matches};
+ghost use Rattle.memory.specs.Rows.{row-prefixes, falling, in-rows, row-of, place-of, matches};
 use crate::key::KeyRule;
 use crate::key::Prefix;
 use crate::key::breadth;
@@ -47,12 +47,6 @@ impl Row {
         }
     }
 
-    fn is_at(&self, prefix: Prefix) -> bool
-        ensures { λ r. ⌜ r ≡ named (now (self .entry)) (prefix .value) (prefix .length) ⌝ }
-    {
-        self.rule.prefix.value == prefix.value && self.rule.prefix.length == prefix.length
-    }
-
     fn covers(&self, key: u32) -> bool
         ensures { λ r. ⌜ r ≡ matches (now (self .entry)) key ⌝ }
     {
@@ -87,7 +81,7 @@ impl Slots {
     {
         let mut i = 0;
         for row in self.rows.iter() {
-            if row.is_at(prefix) {
+            if row.rule.prefix.is(prefix) {
                 return i;
             }
             i += 1;

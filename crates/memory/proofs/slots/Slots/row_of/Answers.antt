@@ -6,15 +6,15 @@ use Rattle.std.specs.Of.Vec.{vec-items}
 use Rattle.memory.proofs.RowLoops.{row-at, row-none}
 use Rattle.memory.proofs.slots.Slots.row_of.Needs as need
 
-pub returns-then-is-at : need.returns-then-is-at
-returns-then-is-at c =
+pub returns-then-is : need.returns-then-is
+returns-then-is c =
     let s = row-at (vec-items (c .args .self .now .rows)) (c .loop-row .row-index) (c .row-item .result) (c .args .prefix .value) (c .args .prefix .length) (c .deref-row-items .ensures .value) (c .loop-row-test .taken) (c .row-item .is) in
-    omega (arith, rw (sym (c .if-is-at .ensures tt)) at s, c .loop-row .inv .1)
+    omega (arith, rw (sym (c .if-is .ensures tt)) at s, c .loop-row .inv .1)
 
 pub loop-row-again : need.loop-row-again
 loop-row-again c =
     let s = row-at (vec-items (c .args .self .now .rows)) (c .loop-row .row-index) (c .row-item .result) (c .args .prefix .value) (c .args .prefix .length) (c .deref-row-items .ensures .value) (c .loop-row-test .taken) (c .row-item .is) in
-    (omega (arith, c .loop-row .inv .0), omega (arith, rw (sym (c .if-is-at .ensures tt)) at s, c .loop-row .inv .1))
+    (omega (arith, c .loop-row .inv .0), omega (arith, rw (sym (c .if-is .ensures tt)) at s, c .loop-row .inv .1))
 
 pub returns : need.returns
 returns c =

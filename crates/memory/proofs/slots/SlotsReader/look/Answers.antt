@@ -17,8 +17,8 @@ returns-then-covers c =
     let rs = vec-items (c .args .self .now .rows) in
     let s = match-at rs (c .loop-row .row-index) (c .row-item .result) (c .args .key) (c .deref-row-items .ensures .value) (c .loop-row-test .taken) (c .row-item .is) in
     let value : Some (c .row-item .result .rule .server) ≡ longest (in-rows (vec-items (c .args .self .now .rows))) (c .args .key) =
-      sym (sym (c .loop-row .inv) ∙ s ∙ ap (λ b. cond b (Some (c .row-item .result .rule .server)) (first-match (drop (c .loop-row .row-index + 1) rs) (c .args .key))) (sym (c .if-covers .ensures tt)))
-      ∙ first-longest 32 rs (c .args .key) (omega arith) (c .args .self .now .ordered) in
+    sym (sym (c .loop-row .inv) ∙ s ∙ ap (λ b. cond b (Some (c .row-item .result .rule .server)) (first-match (drop (c .loop-row .row-index + 1) rs) (c .args .key))) (sym (c .if-covers .ensures tt)))
+    ∙ first-longest 32 rs (c .args .key) (omega arith) (c .args .self .now .ordered) in
     record { value = value; best = looked (in-rows rs) (c .args .key) (Some (c .row-item .result .rule .server)) value (omega arith) }
 
 pub loop-row-again : need.loop-row-again
@@ -31,6 +31,6 @@ pub returns : need.returns
 returns c =
     let rs = vec-items (c .args .self .now .rows) in
     let value : None ≡ longest (in-rows (vec-items (c .args .self .now .rows))) (c .args .key) =
-      sym (sym (c .loop-row .inv) ∙ match-none rs (c .loop-row .row-index) (c .args .key) (omega (arith, ap length (c .deref-row-items .ensures .value))))
-      ∙ first-longest 32 rs (c .args .key) (omega arith) (c .args .self .now .ordered) in
+    sym (sym (c .loop-row .inv) ∙ match-none rs (c .loop-row .row-index) (c .args .key) (omega (arith, ap length (c .deref-row-items .ensures .value))))
+    ∙ first-longest 32 rs (c .args .key) (omega arith) (c .args .self .now .ordered) in
     record { value = value; best = looked (in-rows rs) (c .args .key) None value (omega arith) }
