@@ -162,7 +162,7 @@ same-length [] (q ∷ qs) a b e = absurd (false≢true (e (q .value) (q .length)
 same-length (p ∷ ps) qs a b e =
     let first : among qs (p .value) (p .length) ≡ true = sym (e (p .value) (p .length)) ∙ or-left _ _ (same-self p) in
     let short = length-without (p .value) (p .length) qs first in
-    let rest = same-length ps (without (p .value) (p .length) qs) (and-parts _ _ a .1) (apart-without (p .value) (p .length) qs b) (λ w k. by w k (same-prefix p w k) refl ∙ sym (among-without (p .value) (p .length) qs w k b)) in
+    let rest : length ps ≡ length (without (p .value) (p .length) qs) = same-length ps (without (p .value) (p .length) qs) (and-parts (not (among ps (p .value) (p .length))) (apart ps) a .1) (apart-without (p .value) (p .length) qs b) (λ w k. by w k (same-prefix p w k) refl ∙ sym (among-without (p .value) (p .length) qs w k b)) in
     omega (arith, short, rest)
   where
     by : (w k : ℕ) (c : Bool) → same-prefix p w k ≡ c → among ps w k ≡ cond c false (among qs w k)

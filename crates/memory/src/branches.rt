@@ -140,3 +140,49 @@ pub impl RuleMemory for Branches as BranchesMemory {
         }
     }
 }
+
+#[cfg(test)]
+mod tests {
+    use super::*;
+    use rules::refusal::RefusalDebug;
+    use rules::refusal::RefusalPartialEq;
+    use std::test::*;
+
+    // The length of a chain of spare nodes.
+    fn chain_length(chain: &Trie) -> u32 {
+        let mut node = chain;
+        let mut length = 0u32;
+        while let Trie::Node(_, next, _) = node {
+            length = length.saturating_add(1);
+            node = next;
+        }
+        length
+    }
+
+    // Rounds of 256 rules of 32 bits, put and removed: far more nodes than there are, so that each has to come back.
+    #[test]
+    fn nodes_come_back(rt: LibcRuntime) -> Result<(), Fail> {
+        let mut memory = Branches::new(rt.alloc())?;
+        check_eq(memory.fit(256), Ok(()))?;
+        for round in 0..40u32 {
+            for i in 0..256u32 {
+                let prefix = Prefix {
+                    value: (i << 24) + round,
+                    length: 32,
+                };
+                let server = Server::Two;
+                check_eq(memory.put(KeyRule { prefix, server }), Ok(()))?;
+            }
+            check_eq(memory.count(), 256)?;
+            for i in 0..256u32 {
+                let prefix = Prefix {
+                    value: (i << 24) + round,
+                    length: 32,
+                };
+                check_eq(memory.remove(prefix), Ok(true))?;
+            }
+        }
+        check(matches!(&memory.root, Trie::Empty))?;
+        check_eq(chain_length(&memory.spare), 8481)
+    }
+}

@@ -6,4 +6,6 @@ pub mod reader;
 mod row;
 pub mod rule_memory;
 pub mod slots;
+#[cfg(test)]
+mod tests;
 mod trie;
