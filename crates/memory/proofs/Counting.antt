@@ -1,12 +1,12 @@
 -- Laws of how many prefixes are held, and that n held prefixes and a count of n leave no other.
-use Prim.Native.Nat.{ℕ, zero, suc, _+_, _-_, _<_, _≤_}
-use mathlib.Core.Path.{_≡_, refl, sym, ap, subst, _∙_}
-use mathlib.Core.Bool.{Bool, true, false, cond, not, _&&_, _||_}
+use Prim.Native.Nat.{ℕ, suc, _+_, _-_}
+use mathlib.Core.Path.{_≡_, refl, sym, ap, _∙_}
+use mathlib.Core.Bool.{Bool, true, false, cond, not, _||_}
 use mathlib.Core.List.{List, [], _∷_}
 use native.Mathlib.Omega.{arith}
 use lib.Dec.{eqb}
 use lib.ListN.{length}
-use Rattle.std.proofs.shelf.Tests.{and-parts, and-from, or-parts, or-left, or-right, or-cases, eqb-true, eq-eqb, false≢true, both-ways, not-true, not-from-false}
+use Rattle.std.proofs.shelf.Tests.{and-parts, and-from, or-left, or-right, eqb-true, eq-eqb, false≢true, both-ways, not-true, not-from-false}
 use mathlib.Core.Logic.{∥∥₁-elim}
 use mathlib.Core.HLevel.{⊥-prop}
 use Rattle.std.specs.Options.{isSome}
@@ -16,7 +16,7 @@ use Rattle.rules.specs.declared.server.Server.{Server}
 use Rattle.memory.specs.declared.key.Prefix.{Prefix}
 use Rattle.memory.specs.Holding.{Held, at, same-prefix, among, apart, Counted}
 use Rattle.memory.specs.Writes.{written}
-use Rattle.memory.proofs.Prefixes.{same-as, same-both, some-or, off-unless}
+use Rattle.memory.proofs.Prefixes.{same-as, same-both, some-or}
 
 abbrev prefix : ℕ → ℕ → Prefix
 prefix v l = record { value = v; length = l }

@@ -1,7 +1,7 @@
 -- Which prefix of a length covers a key.
 use Prim.Native.Nat.{ℕ, _+_, _-_, _*_, _/_, _%_, _^_, _<_, _≤_}
-use mathlib.Core.Path.{_≡_, refl, sym, ap, subst, _∙_}
-use mathlib.Core.Bool.{Bool, true, false, _&&_}
+use mathlib.Core.Path.{_≡_, sym, ap, subst, _∙_}
+use mathlib.Core.Bool.{true, _&&_}
 use native.Mathlib.Omega.{arith}
 use native.Mathlib.Nat.{mod-le, mod-lt, mod-eq-of-lt, add-mul-mod-self-right, mul-mod-left, div-add-mod', add-mul, mul-le-mul-right}
 use lib.Pow.{pow-add, pow-pos, shr-lt}

@@ -1,9 +1,8 @@
 -- Held rules, and as many as are counted: then no other rule is held.
 use Prim.Native.Nat.{ℕ, suc}
 use mathlib.Core.Path.{_≡_, refl, sym, ap, _∙_}
-use mathlib.Core.Bool.{Bool, true, false, cond, not, _&&_, _||_}
+use mathlib.Core.Bool.{Bool, true, false, cond, _||_}
 use mathlib.Core.List.{List, [], _∷_}
-use native.Mathlib.Omega.{arith}
 use lib.Dec.{eqb}
 use lib.ListN.{length}
 use Rattle.std.proofs.shelf.Tests.{and-parts, and-from, eqb-true, eq-eqb, false≢true, both-ways, not-true, or-left, or-right}
@@ -13,7 +12,6 @@ use Rattle.std.specs.declared.option.Option.the-variants.{Some, None}
 use Rattle.rules.specs.declared.server.Server.{Server}
 use Rattle.rules.specs.declared.server.Server.the-variants.{One, Two}
 use Rattle.rules.specs.Servers.{server-number}
-use Rattle.memory.specs.declared.key.Prefix.{Prefix}
 use Rattle.memory.specs.declared.key.KeyRule.{KeyRule}
 use Rattle.memory.specs.Holding.{Held, at, same-prefix, among, apart, Counted, prefixes-of, listed, Exactly, same-server, all-held}
 use Rattle.memory.proofs.Prefixes.{listed-among, none-from, off-unless}

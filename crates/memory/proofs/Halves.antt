@@ -1,10 +1,9 @@
 -- A prefix without its first bit.
 use Prim.Native.Nat.{ℕ, zero, suc, _+_, _-_, _*_, _%_, _^_, _<_, _≤_}
-use mathlib.Core.Path.{_≡_, refl, sym, ap, subst, _∙_}
-use mathlib.Core.Bool.{Bool, true, false, cond, _&&_}
+use mathlib.Core.Path.{_≡_, sym, ap, subst, _∙_}
 use native.Mathlib.Omega.{arith}
-use native.Mathlib.Nat.{two-pow-succ, mod-eq-of-lt, mod-le, add-mul-mod-self-right}
-use lib.Pow.{pow-add, pow-pos}
+use native.Mathlib.Nat.{two-pow-succ, mod-eq-of-lt, add-mul-mod-self-right}
+use lib.Pow.{pow-add}
 use Rattle.memory.specs.Tries.{half, Within}
 
 pub double : (h : ℕ) → 0 < h → 2 ^ h ≡ half h + half h
@@ -40,6 +39,3 @@ within-none h v w =
 -- the same, with the first bit as a number of the program
 pub within-one-at : (h n v a : ℕ) → a ≡ half h → Within h n v → 0 < n → a ≤ v → Within (h - 1) (n - 1) (v - a)
 within-one-at h n v a e w p r = subst (λ b. Within (h - 1) (n - 1) (v - b)) (sym e) (within-one h n v w p (omega (arith, e)))
-
-pub within-zero-at : (h n v a : ℕ) → a ≡ half h → Within h n v → 0 < n → v < a → Within (h - 1) (n - 1) v
-within-zero-at h n v a e w p r = within-zero h n v w p (omega (arith, e))

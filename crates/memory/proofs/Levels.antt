@@ -1,5 +1,5 @@
 -- One level of a tree: what is held below it, and what then is held.
-use Prim.Native.Nat.{ℕ, zero, suc, _+_, _-_, _*_, _%_, _^_, _<_, _≤_}
+use Prim.Native.Nat.{ℕ, _+_, _-_, _<_, _≤_}
 use mathlib.Core.Path.{_≡_, refl, sym, ap, subst, _∙_}
 use mathlib.Core.Bool.{Bool, true, false, cond, not, _&&_, _||_}
 use native.Mathlib.Omega.{arith}
@@ -13,7 +13,7 @@ use Rattle.std.specs.declared.option.Option.{Option}
 use Rattle.std.specs.declared.option.Option.the-variants.{Some, None}
 use Rattle.rules.specs.declared.server.Server.{Server}
 use Rattle.memory.specs.declared.trie.Trie.{Trie}
-use Rattle.memory.specs.declared.trie.Trie.the-variants.{Empty, Node′}
+use Rattle.memory.specs.declared.trie.Trie.the-variants.{Node′}
 use Rattle.memory.specs.Tries.{half, at-bits, Within, is-node, nodes, rules, neat, ready, spares, Opened, Inserted, Pruned, Erased}
 use Rattle.memory.proofs.Halves.{within-one, within-zero, within-none}
 
@@ -105,8 +105,8 @@ less (Some x) k = omega arith
 
 module _ {t g c c₁ : Trie} {s : Option Server} {p q : Box (Unit {0}) Global} {l r : Trie} (h n v : ℕ) (x : Server)
     (first : Opened t g c c₁) (is : g ≡ Node′ s p l q r) (in-v : Within h n v) where
-  pub inserted-here : n ≡ 0 → Inserted t (Node′ (Some x) p l q r) c c₁ h n v x
-  inserted-here none =
+  here : n ≡ 0 → Inserted t (Node′ (Some x) p l q r) c c₁ h n v x
+  here none =
       let sp = subst (λ u. Opened t u c c₁) is first in
       let at = sym (sp .held h n v) ∙ cond-true (eqb n 0) s (cond (leb (half h) v) (at-bits r (h - 1) (n - 1) (v - half h)) (at-bits l (h - 1) (n - 1) v)) (eq-eqb n 0 none) in
       record {
@@ -116,6 +116,9 @@ module _ {t g c c₁ : Trie} {s : Option Server} {p q : Box (Unit {0}) Global} {
         node = refl;
         neat-kept = λ e. sp .ready-now h e;
       }
+
+  pub inserted-here : (o : Option Server) → o ≡ Some x → n ≡ 0 → Inserted t (Node′ o p l q r) c c₁ h n v x
+  inserted-here o e none = subst (λ y. Inserted t (Node′ y p l q r) c c₁ h n v x) (sym e) (here none)
 
   pub inserted-one : {u r′ c₂ : Trie} {a : ℕ} → 0 < n → a ≡ half h → a ≤ v → u ≡ r → Inserted u r′ c₁ c₂ (h - 1) (n - 1) (v - a) x → Inserted t (Node′ s p l q r′) c c₂ h n v x
   inserted-one {u} {r′} {c₂} {a} pos ea up eu below =
@@ -150,8 +153,8 @@ module _ {t g c c₁ : Trie} {s : Option Server} {p q : Box (Unit {0}) Global} {
       }
 
 module _ {t c : Trie} {s : Option Server} {p q : Box (Unit {0}) Global} {l r : Trie} (h n v : ℕ) (is : t ≡ Node′ s p l q r) (in-v : Within h n v) where
-  pub erased-here : n ≡ 0 → Erased t (Node′ None p l q r) c c h n v ready
-  erased-here none =
+  gone : n ≡ 0 → Erased t (Node′ None p l q r) c c h n v ready
+  gone none =
       let at = ap (λ u. at-bits u h n v) is ∙ cond-true (eqb n 0) s (cond (leb (half h) v) (at-bits r (h - 1) (n - 1) (v - half h)) (at-bits l (h - 1) (n - 1) v)) (eq-eqb n 0 none) in
       record {
         held = λ k w in-h. level-here s None p q l r h n v none in-v k w in-h ∙ ap (λ u. cond (eqb v w && eqb n k) None (at-bits u h k w)) (sym is);
@@ -159,6 +162,9 @@ module _ {t c : Trie} {s : Option Server} {p q : Box (Unit {0}) Global} {l r : T
         rules-are = ap (λ o. (0 + (rules l + rules r)) + cond (isSome o) 1 0) at ∙ less s (rules l + rules r) ∙ ap rules (sym is);
         neat-kept = λ e. neat-ready s p q l r h (ap (λ u. neat u h) (sym is) ∙ e);
       }
+
+  pub erased-here : (o : Option Server) → o ≡ None → n ≡ 0 → Erased t (Node′ o p l q r) c c h n v ready
+  erased-here o e none = subst (λ y. Erased t (Node′ y p l q r) c c h n v ready) (sym e) (gone none)
 
   pub erased-one : {u r′ c₂ : Trie} {a : ℕ} → 0 < n → a ≡ half h → a ≤ v → u ≡ r → Erased u r′ c c₂ (h - 1) (n - 1) (v - a) neat → Erased t (Node′ s p l q r′) c c₂ h n v ready
   erased-one {u} {r′} {c₂} {a} pos ea up eu below =

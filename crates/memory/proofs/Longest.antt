@@ -10,7 +10,7 @@ use Rattle.std.specs.declared.option.Option.the-variants.{Some, None}
 use Rattle.rules.specs.declared.server.Server.{Server}
 use Rattle.memory.specs.Keys.{Covers, cut}
 use Rattle.memory.specs.Holding.{Held}
-use Rattle.memory.specs.Looks.{longest, down-from, LongestMatch, Answered}
+use Rattle.memory.specs.Looks.{longest, down-from, Answered}
 use Rattle.memory.proofs.Covering.{formed-parts, covers-cut, cut-covers}
 
 -- the greatest length up to n that has an answer

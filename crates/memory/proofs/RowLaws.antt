@@ -1,12 +1,12 @@
 -- Laws of rules in rows.
-use Prim.Native.Nat.{ℕ, zero, suc, _+_, _^_, _<_, _≤_}
-use mathlib.Core.Path.{_≡_, refl, sym, ap, subst, _∙_}
-use mathlib.Core.Bool.{Bool, true, false, cond, not, _&&_, _||_}
-use mathlib.Core.List.{List, [], _∷_, _++_}
+use Prim.Native.Nat.{ℕ, zero, suc, _^_, _<_, _≤_}
+use mathlib.Core.Path.{_≡_, refl, sym, ap, _∙_}
+use mathlib.Core.Bool.{Bool, true, false, cond, not, _||_}
+use mathlib.Core.List.{List, [], _∷_}
 use native.Mathlib.Omega.{arith}
-use lib.Dec.{eqb, leb, ltb}
-use lib.ListN.{length, getD, take, drop, set}
-use Rattle.std.proofs.shelf.Tests.{and-parts, and-from, and-right, or-parts, or-from, eqb-true, eqb-false, eq-eqb, ne-eqb, le-leb, leb-true, leb-false, false≢true, both-ways, not-true, not-from-false, cond-true, cond-false}
+use lib.Dec.{eqb, leb}
+use lib.ListN.{length, getD, set}
+use Rattle.std.proofs.shelf.Tests.{and-parts, and-from, and-right, or-parts, or-from, eqb-true, eq-eqb, ne-eqb, le-leb, leb-true, leb-false, false≢true, both-ways, not-true, not-from-false, cond-true, cond-false}
 use Rattle.std.proofs.shelf.Ways.{tells}
 use Rattle.std.specs.Holes.{inserted, removed}
 use Rattle.std.specs.Options.{isSome}
@@ -226,14 +226,6 @@ first-longest n (r ∷ rs) key small f =
 pub rows-counted : (rs : List Row) (n : ℕ) → length rs ≡ n → apart (row-prefixes rs) ≡ true → Counted (in-rows rs) n
 rows-counted rs n e a = record { prefixes = row-prefixes rs; many = length-rows rs ∙ e; once = a; exact = rows-among rs }
 
-pub row-le : (rs : List Row) (v l : ℕ) → row-of rs v l ≤ length rs
-row-le [] v l = omega arith
-row-le (r ∷ rs) v l = by (row-le rs v l) (named r v l)
-  where
-    by : row-of rs v l ≤ length rs → (b : Bool) → cond b 0 (suc (row-of rs v l)) ≤ suc (length rs)
-    by ih true = omega arith
-    by ih false = omega arith
-
 pub place-le : (rs : List Row) (n : ℕ) → place-of rs n ≤ length rs
 place-le [] n = omega arith
 place-le (r ∷ rs) n = by (place-le rs n) (leb (r .rule .prefix .length) n)
@@ -249,9 +241,6 @@ row-some (r ∷ rs) v l h = by (row-some rs v l) (named r v l) h
     by : (row-of rs v l < length rs → (t : Server) × (in-rows rs v l ≡ Some t)) → (b : Bool) → cond b 0 (suc (row-of rs v l)) < suc (length rs) → (t : Server) × (cond b (Some (r .rule .server)) (in-rows rs v l) ≡ Some t)
     by ih true h = (r .rule .server, refl)
     by ih false h = ih (omega arith)
-
-pub rows-unformed : (rs : List Row) (v l : ℕ) → formed v l ≡ false → in-rows rs v l ≡ None
-rows-unformed rs v l f = none-from _ (off-unless _ (λ e. both-ways _ f (rows-formed rs v l e)))
 
 pub short-enough : (r : Row) → r .rule .prefix .length ≤ 32
 short-enough r = leb-true _ _ (and-parts (leb (r .rule .prefix .length) 32) _ (r .whole) .0)

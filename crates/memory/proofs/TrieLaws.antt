@@ -1,13 +1,12 @@
 -- Laws of a whole trie.
-use Prim.Native.Nat.{ℕ, zero, suc, _+_, _-_, _*_, _/_, _%_, _^_, _<_, _≤_}
+use Prim.Native.Nat.{ℕ, zero, suc, _+_, _-_, _*_, _%_, _^_, _<_, _≤_}
 use mathlib.Core.Path.{_≡_, refl, sym, ap, subst, _∙_}
-use mathlib.Core.Bool.{Bool, true, false, cond, not, _&&_, _||_}
+use mathlib.Core.Bool.{Bool, true, false, cond, not, _||_}
 use native.Mathlib.Omega.{arith}
-use native.Mathlib.Nat.{mul-add, add-mul, suc-mul, mul-suc, mul-mod-left, mod-eq-sub-div-mul, mod-le, div-add-mod', mul-le-mul-left}
+use native.Mathlib.Nat.{mul-add, add-mul, mod-le}
 use lib.Dec.{eqb, leb, ltb}
-use Rattle.std.proofs.shelf.Tests.{and-parts, and-from, or-cases, eqb-true, eq-eqb, ne-eqb, leb-true, leb-false, le-leb, lt-leb, lt-ltb, ltb-true, false≢true, both-ways, not-true, cond-true, cond-false, cases-lt}
+use Rattle.std.proofs.shelf.Tests.{and-parts, eqb-true, ne-eqb, leb-true, leb-false, ltb-true, false≢true, both-ways, cond-true}
 use Rattle.std.proofs.shelf.Ways.{tells}
-use mathlib.Core.Logic.{inl, inr}
 use Rattle.std.specs.Options.{isSome, orOther}
 use Rattle.std.specs.declared.alloc.Global.{Global}
 use Rattle.std.specs.declared.boxed.Box.{Box}
@@ -21,10 +20,10 @@ use Rattle.memory.specs.Keys.{cut, formed}
 use Rattle.memory.specs.Holding.{at, same-prefix}
 use Rattle.memory.specs.Looks.{longest, down-from}
 use Rattle.memory.specs.Writes.{written}
-use Rattle.memory.specs.Tries.{half, at-bits, in-trie, look-in, Within, is-node, nodes, rules, neat, ready, spares}
+use Rattle.memory.specs.Tries.{half, at-bits, in-trie, look-in, Within, is-node, nodes, rules, neat, spares}
 use Rattle.memory.proofs.DownFrom.{down-cong, down-none, down-shift}
 use Rattle.memory.proofs.Covering.{formed-parts, cut-formed}
-use Rattle.memory.proofs.Halves.{first-bit, rest-mod}
+use Rattle.memory.proofs.Halves.{rest-mod}
 use Rattle.memory.proofs.Levels.{behind-one, behind-zero}
 
 -- a neat tree has a rule below each node
@@ -172,13 +171,6 @@ trie-written t t′ p o f e w k = by (formed w k) refl
     by : (b : Bool) → formed w k ≡ b → cond b (at-bits t′ 32 k w) None ≡ cond (same-prefix p w k) o (cond b (at-bits t 32 k w) None)
     by true ok = e k w (formed-parts w k ok)
     by false unlike = off (same-prefix p w k) refl unlike
-
-pub trie-formed : (t : Trie) (v l : ℕ) → isSome (in-trie t v l) ≡ true → formed v l ≡ true
-trie-formed t v l e = by (formed v l) refl e
-  where
-    by : (b : Bool) → formed v l ≡ b → isSome (cond b (at-bits t 32 l v) None) ≡ true → b ≡ true
-    by true f e = refl
-    by false f e = absurd (false≢true e)
 
 pub trie-at : (t : Trie) (p : Prefix) (o : Option Server) → formed (p .value) (p .length) ≡ true → o ≡ at-bits t 32 (p .length) (p .value) → at (in-trie t) p ≡ o
 trie-at t p o f e = cond-true (formed (p .value) (p .length)) (at-bits t 32 (p .length) (p .value)) None f ∙ sym e

@@ -1,26 +1,25 @@
--- The ways out of a put, of a remove and of a fitting, over what is held and not over any one memory.
+-- The ways out of a put and of a remove, over what is held and not over any one memory.
 use Prim.Native.Nat.{ℕ, _+_, _<_, _≤_}
 use mathlib.Core.Path.{_≡_, refl, sym, ap, _∙_}
 use mathlib.Core.Bool.{Bool, true, false, cond, not, _&&_}
-use mathlib.Core.List.{List, [], _∷_}
+use mathlib.Core.List.{[], _∷_}
 use native.Mathlib.Omega.{arith}
-use lib.Dec.{eqb, leb, ltb}
-use Rattle.std.proofs.shelf.Tests.{and-parts, and-from, and-left, and-right, le-leb, lt-leb, lt-ltb, le-ltb, eqb-true, both-ways}
+use lib.Dec.{eqb, leb}
+use Rattle.std.proofs.shelf.Tests.{and-parts, and-from, and-left, and-right, le-leb, lt-leb, eqb-true, both-ways}
 use Rattle.std.specs.Options.{isSome}
-use Rattle.std.specs.Results.{isOk}
 use Rattle.std.specs.declared.option.Option.{Option}
 use Rattle.std.specs.declared.option.Option.the-variants.{Some, None}
 use Rattle.std.specs.declared.result.Result.{Result}
 use Rattle.std.specs.declared.result.Result.the-variants.{Ok, Err}
 use Rattle.rules.specs.declared.server.Server.{Server}
 use Rattle.rules.specs.declared.refusal.Refusal.{Refusal}
-use Rattle.rules.specs.declared.refusal.Refusal.the-variants.{AboveCeiling, BrokenLayout, MemoryFull}
+use Rattle.rules.specs.declared.refusal.Refusal.the-variants.{BrokenLayout, MemoryFull}
 use Rattle.rules.specs.Refusals.{_when_, first, refusal}
 use Rattle.memory.specs.declared.key.Prefix.{Prefix}
 use Rattle.memory.specs.declared.key.KeyRule.{KeyRule}
 use Rattle.memory.specs.Keys.{formed}
 use Rattle.memory.specs.Holding.{Held, at, same-prefix}
-use Rattle.memory.specs.Writes.{broken, written, Put, Removed, Fitted}
+use Rattle.memory.specs.Writes.{broken, written, Put, Removed}
 
 abbrev kept : (p : Prefix) → Type 0
 kept p = formed (p .value) (p .length) ≡ true
@@ -35,9 +34,6 @@ tried : {T : Type 0} (h : Held) (n most : ℕ) (p : Prefix) (r : Result T Refusa
 tried h n most p r a b ea eb e = e ∙ sym (ap (λ x. first ((BrokenLayout when x) ∷ (MemoryFull when full h n most p) ∷ [])) ea ∙ ap (λ x. first ((BrokenLayout when a) ∷ (MemoryFull when x) ∷ [])) eb)
 
 module _ {T : Type 0} {h h′ : Held} {n n′ : ℕ} (most : ℕ) (rule : KeyRule) where
-  pub put-broken : formed (rule .prefix .value) (rule .prefix .length) ≡ false → ((v l : ℕ) → h′ v l ≡ h v l) → n′ ≡ n → Put {T = T} h h′ n n′ most rule (Err BrokenLayout)
-  put-broken f e m = record { refused = tried {T = T} h n most (rule .prefix) (Err BrokenLayout) true (full h n most (rule .prefix)) (ap not f) refl refl; holds = e; counts = omega arith }
-
   pub put-full : kept (rule .prefix) → at h (rule .prefix) ≡ None → most ≤ n → ((v l : ℕ) → h′ v l ≡ h v l) → n′ ≡ n → Put {T = T} h h′ n n′ most rule (Err MemoryFull)
   put-full f o over e m =
       record {
@@ -66,9 +62,6 @@ taken : {T : Type 0} (p : Prefix) (x : T) → kept p → refusal {T = T} (Ok x) 
 taken p x f = sym (ap (λ y. first ((BrokenLayout when not y) ∷ [])) f)
 
 module _ {T : Type 0} {h h′ : Held} {n n′ : ℕ} (p : Prefix) where
-  pub remove-broken : formed (p .value) (p .length) ≡ false → ((v l : ℕ) → h′ v l ≡ h v l) → n′ ≡ n → Removed {T = T} h h′ n n′ p (Err BrokenLayout)
-  remove-broken f e m = record { refused = sym (ap (λ x. first ((BrokenLayout when not x) ∷ [])) f); holds = e; counts = omega arith }
-
   pub remove-there : (x : T) → kept p → (t : Server) → at h p ≡ Some t → ((v l : ℕ) → h′ v l ≡ written h p None v l) → n′ + 1 ≡ n → Removed h h′ n n′ p (Ok x)
   remove-there x f t o e m = record { refused = taken p x f; holds = e; counts = ap (λ y. n′ + cond (isSome y) 1 0) o ∙ m }
 
@@ -98,10 +91,3 @@ remove-after {h = h} p (Err why) done layout v l = done .holds v l ∙ by (same-
     by true eb false ef (Some s) eo =
         let t = and-parts (eqb (p .value) v) (eqb (p .length) l) eb in
         absurd (both-ways _ ef (ap (λ x. formed x (p .length)) (eqb-true (p .value) v (t .0)) ∙ ap (formed v) (eqb-true (p .length) l (t .1)) ∙ layout v l (ap isSome eo)))
-
-module _ {T : Type 0} {h h′ : Held} {n n′ most most′ : ℕ} (ceiling asked : ℕ) where
-  pub fit-refused : ceiling < asked → ((v l : ℕ) → h′ v l ≡ h v l) → n′ ≡ n → most′ ≡ most → Fitted {T = T} ceiling asked h h′ n n′ most most′ (Err AboveCeiling)
-  fit-refused over e m f = record { refused = sym (ap (λ x. first ((AboveCeiling when x) ∷ [])) (lt-ltb ceiling asked over)); holds = e; counts = m; fits = f }
-
-  pub fit-done : (x : T) → asked ≤ ceiling → ((v l : ℕ) → h′ v l ≡ None) → n′ ≡ 0 → most′ ≡ asked → Fitted ceiling asked h h′ n n′ most most′ (Ok x)
-  fit-done x under e m f = record { refused = sym (ap (λ y. first ((AboveCeiling when y) ∷ [])) (le-ltb ceiling asked under)); holds = e; counts = m; fits = f }

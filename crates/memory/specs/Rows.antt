@@ -1,5 +1,5 @@
 -- Rules in rows, longer prefixes ahead of shorter ones: what the rows hold, and which of them answers.
-use mathlib.Core.Bool.{Bool, true, false, cond, _&&_}
+use mathlib.Core.Bool.{Bool, true, cond, _&&_}
 use mathlib.Core.List.{List, [], _∷_}
 use Prim.Native.Nat.{ℕ, suc}
 use lib.Dec.{leb}

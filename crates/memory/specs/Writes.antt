@@ -1,9 +1,9 @@
 -- What writes and fittings do to a rule memory, accepted and refused.
 use mathlib.Core.Path.{_≡_}
-use mathlib.Core.Bool.{Bool, true, false, cond, not, _&&_}
-use mathlib.Core.List.{List, [], _∷_}
+use mathlib.Core.Bool.{Bool, cond, not, _&&_}
+use mathlib.Core.List.{[], _∷_}
 use Prim.Native.Nat.{ℕ, _+_}
-use lib.Dec.{eqb, leb, ltb}
+use lib.Dec.{leb, ltb}
 use Rattle.std.specs.Options.{isSome}
 use Rattle.std.specs.Results.{isOk}
 use Rattle.std.specs.declared.option.Option.{Option}
@@ -12,7 +12,7 @@ use Rattle.std.specs.declared.result.Result.{Result}
 use Rattle.rules.specs.declared.server.Server.{Server}
 use Rattle.rules.specs.declared.refusal.Refusal.{Refusal}
 use Rattle.rules.specs.declared.refusal.Refusal.the-variants.{AboveCeiling, BrokenLayout, MemoryFull}
-use Rattle.rules.specs.Refusals.{Ground, _when_, first, refusal}
+use Rattle.rules.specs.Refusals.{_when_, first, refusal}
 use Rattle.memory.specs.declared.key.Prefix.{Prefix}
 use Rattle.memory.specs.declared.key.KeyRule.{KeyRule}
 use Rattle.memory.specs.Keys.{formed}

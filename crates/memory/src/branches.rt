@@ -2,7 +2,7 @@
 // always finds the nodes that it needs, and a remove gives back those that it emptied.
 ghost use mathlib.Core.Path.{_≡_};
 ghost use mathlib.Core.Bool.{true, false};
-ghost use Prim.Native.Nat.{ℕ, _+_, _<_, _≤_};
+ghost use Prim.Native.Nat.{_+_, _<_, _≤_};
 ghost use Rattle.std.specs.Vec.{made};
 ghost use Rattle.memory.specs.Holding.{Counted};
 ghost use Rattle.memory.specs.Writes.{Fitted, Fresh};

@@ -41,7 +41,7 @@ impl Prefix {
     }
 
     // Whether both are one prefix.
-    pub fn is(self, other: Prefix) -> bool
+    pub(crate) fn is(self, other: Prefix) -> bool
         ensures { λ r. ⌜ r ≡ same-prefix self (other .value) (other .length) ⌝ }
     {
         self.value == other.value && self.length == other.length

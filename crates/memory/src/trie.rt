@@ -1,10 +1,10 @@
 // A binary trie over the bits of a key, the highest first, and a chain of spare nodes.
 ghost use mathlib.Core.Path.{_≡_};
-ghost use mathlib.Core.Bool.{Bool, true, false, cond, not};
-ghost use Prim.Native.Nat.{ℕ, _+_, _-_, _*_, _/_, _%_, _^_, _<_, _≤_};
+ghost use mathlib.Core.Bool.{true, false, not};
+ghost use Prim.Native.Nat.{_+_, _-_, _*_, _<_, _≤_};
 ghost use Rattle.std.specs.Vec.{made};
 ghost use Rattle.std.specs.declared.option.Option.the-variants.{Some, None};
-ghost use Rattle.memory.specs.Tries.{at-bits, look-in, half, spares, nodes, rules, is-node, bare, neat, ready, Within, Opened, Inserted, Pruned, Erased};
+ghost use Rattle.memory.specs.Tries.{at-bits, look-in, half, spares, nodes, is-node, bare, neat, ready, Within, Opened, Inserted, Pruned, Erased};
 use rules::server::Server;
 use std::alloc::AllocError;
 use std::alloc::Global;

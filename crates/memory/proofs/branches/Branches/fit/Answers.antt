@@ -1,4 +1,3 @@
-use mathlib.Core.Path.{_≡_, refl, sym, ap, _∙_}
 use native.Mathlib.Omega.{arith}
 use Rattle.memory.proofs.Counting.{counted-none}
 use Rattle.memory.proofs.TrieLaws.{trie-none, empty-is}

@@ -1,4 +1,4 @@
-use mathlib.Core.Path.{_≡_, refl, sym, ap, _∙_}
+use mathlib.Core.Path.{refl}
 use native.Mathlib.Omega.{arith}
 use Rattle.memory.proofs.Counting.{counted-none}
 use Rattle.memory.proofs.TrieLaws.{trie-none}

@@ -1,5 +1,5 @@
 use Prim.Native.Nat.{ℕ}
-use mathlib.Core.Path.{_≡_, refl, sym, ap, _∙_}
+use mathlib.Core.Path.{refl, sym, ap, _∙_}
 use mathlib.Core.Bool.{cond}
 use mathlib.Core.Logic.{∥∥₁-map}
 use native.Mathlib.Omega.{arith}
@@ -81,7 +81,7 @@ returns-then-self c =
     let me = c .args .self .now in
     let f = sym (c .if-not-is-well-formed .ensures tt) in
     record {
-      rules = put-full (me .capacity) (c .args .rule) f (trie-at (me .root) (c .args .rule .prefix) None f (c .in-None .ensures tt)) (c .if-self .taken) (λ v l. refl) refl;
+      rules = put-full (me .capacity) (c .args .rule) f (trie-at (me .root) (c .args .rule .prefix) None f (c .in-None .ensures tt)) (omega (arith, c .if-self .taken)) (λ v l. refl) refl;
       limit = refl;
     }
 
@@ -91,7 +91,7 @@ returns-else-self c =
     let p = c .args .rule .prefix in
     let f = sym (c .if-not-is-well-formed .ensures tt) in
     record {
-      rules = put-new (me .capacity) (c .args .rule) tt f (trie-at (me .root) p None f (c .in-None .ensures tt)) (c .if-self .left)
+      rules = put-new (me .capacity) (c .args .rule) tt f (trie-at (me .root) p None f (c .in-None .ensures tt)) (omega (arith, c .if-self .left))
           (trie-written (me .root) (c .insert-in-None .last .self) p (Some (c .args .rule .server)) f (c .insert-in-None .ensures .held)) refl;
       limit = refl;
     }

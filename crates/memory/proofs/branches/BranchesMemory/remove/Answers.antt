@@ -1,5 +1,5 @@
 use Prim.Native.Nat.{ℕ, _≤_}
-use mathlib.Core.Path.{_≡_, refl, sym, ap, _∙_}
+use mathlib.Core.Path.{refl, sym, ap, _∙_}
 use mathlib.Core.Bool.{cond}
 use mathlib.Core.Logic.{∥∥₁-map}
 use native.Mathlib.Omega.{arith}
@@ -7,7 +7,6 @@ use Rattle.std.specs.Options.{isSome}
 use Rattle.std.specs.declared.option.Option.the-variants.{Some, None}
 use Rattle.memory.proofs.Counting.{counted-less}
 use Rattle.memory.proofs.TrieLaws.{trie-written, trie-at}
-use Rattle.memory.proofs.Writing.{remove-there, remove-absent}
 use Rattle.memory.proofs.branches.BranchesMemory.remove.Needs as need
 
 pub ghost-self : need.ghost-self

@@ -1,10 +1,9 @@
-use mathlib.Core.Path.{_≡_, refl, sym, ap, _∙_}
-use mathlib.Core.Bool.{Bool, true, false, cond}
+use mathlib.Core.Path.{_≡_, refl, ap, _∙_}
+use mathlib.Core.Bool.{cond}
 use Prim.Native.Nat.{_+_}
 use native.Mathlib.Omega.{arith}
 use Rattle.std.specs.Holes.{inserted}
 use Rattle.std.specs.Of.Vec.{vec-items, vec-len}
-use Rattle.std.specs.Results.{isOk}
 use Rattle.memory.specs.Holding.{apart}
 use Rattle.memory.specs.Rows.{row-prefixes, falling, in-rows, place-of}
 use Rattle.memory.proofs.RowLaws.{rows-inserted, apart-inserted, falling-inserted, place-le, short-enough}

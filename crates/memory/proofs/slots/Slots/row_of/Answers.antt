@@ -1,7 +1,6 @@
-use mathlib.Core.Path.{_≡_, ap, sym}
+use mathlib.Core.Path.{ap, sym}
 use native.Mathlib.Omega.{arith}
 use lib.ListN.{length}
-use Rattle.std.proofs.shelf.Ways.{tells}
 use Rattle.std.specs.Of.Vec.{vec-items}
 use Rattle.memory.proofs.RowLoops.{row-at, row-none}
 use Rattle.memory.proofs.slots.Slots.row_of.Needs as need

@@ -1,9 +1,9 @@
-use mathlib.Core.Path.{_≡_, refl, sym, ap, _∙_}
+use mathlib.Core.Path.{refl, ap, _∙_}
 use native.Mathlib.Omega.{arith}
 use Rattle.std.specs.Holes.{removed}
 use Rattle.std.specs.Of.Vec.{vec-items}
 use Rattle.memory.specs.Holding.{apart}
-use Rattle.memory.specs.Rows.{row-prefixes, falling, in-rows, row-of}
+use Rattle.memory.specs.Rows.{row-prefixes, falling, in-rows}
 use Rattle.memory.proofs.RowLaws.{rows-removed, apart-removed, falling-removed}
 use Rattle.memory.proofs.slots.Slots.strike.Needs as need
 

@@ -1,13 +1,12 @@
 use Prim.Native.Nat.{_-_}
-use mathlib.Core.Path.{_≡_, refl, sym, ap, _∙_}
+use mathlib.Core.Path.{refl}
 use native.Mathlib.Omega.{arith}
-use Rattle.memory.specs.Tries.{half, Within}
 use Rattle.memory.proofs.Halves.{within-one-at}
 use Rattle.memory.proofs.Levels.{erased-here, erased-one, erased-zero, tidy}
 use Rattle.memory.proofs.trie.Trie.+clear.Needs as need
 
 pub returns-then-length-eq0 : need.returns-then-length-eq0
-returns-then-length-eq0 t c = erased-here (c .args .height) (c .args .length) (c .args .value) (c .in-Node .is) (c .pre .path) (c .if-length-eq0 .taken)
+returns-then-length-eq0 t c = erased-here (c .args .height) (c .args .length) (c .args .value) (c .in-Node .is) (c .pre .path) _ refl (c .if-length-eq0 .taken)
 
 pub clear-requires : need.clear-requires
 clear-requires t c κs =

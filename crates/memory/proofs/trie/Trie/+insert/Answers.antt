@@ -1,12 +1,11 @@
-use mathlib.Core.Path.{_≡_, refl, sym, ap, _∙_}
+use mathlib.Core.Path.{refl}
 use native.Mathlib.Omega.{arith}
-use Rattle.memory.specs.Tries.{half, Within}
 use Rattle.memory.proofs.Halves.{within-one-at}
 use Rattle.memory.proofs.Levels.{inserted-here, inserted-one, inserted-zero}
 use Rattle.memory.proofs.trie.Trie.+insert.Needs as need
 
 pub returns-then-length-eq0 : need.returns-then-length-eq0
-returns-then-length-eq0 t c = inserted-here (c .args .height) (c .args .length) (c .args .value) (c .args .server) (c .open .ensures) (c .in-Node .is) (c .pre .path) (c .if-length-eq0 .taken)
+returns-then-length-eq0 t c = inserted-here (c .args .height) (c .args .length) (c .args .value) (c .args .server) (c .open .ensures) (c .in-Node .is) (c .pre .path) _ refl (c .if-length-eq0 .taken)
 
 pub insert-requires : need.insert-requires
 insert-requires t c κs =
