@@ -15,8 +15,10 @@ pub trait RuleMemory: Reader {
     // The capacity: how many rules the memory takes.
     ghost limit: { Self → ℕ };
 
+    // No memory takes more than 65,536 rules.
     law most: { (m : Self) → limit m ≤ 65536 };
 
+    // How many rules the memory takes.
     fn capacity(&self) -> u32
         ensures { λ r. ⌜ r ≡ limit (now (self .entry)) ⌝ };
 
