@@ -1,3 +1,4 @@
 pub mod Counting
 pub mod Lines
+pub mod Planning
 pub mod Words

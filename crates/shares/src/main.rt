@@ -1,5 +1,6 @@
 // A what-if calculator for one service on the command line.
 mod nearest;
+mod plans;
 mod refused;
 mod report;
 mod request;

@@ -5,6 +5,7 @@ ghost use Rattle.std.specs.Of.String.{string-bytes};
 ghost use Rattle.std.specs.Vec.{made};
 ghost use Rattle.shares.specs.Texts.{text-of, Answered};
 use crate::nearest::nearest_text;
+use crate::plans::plan_text;
 use crate::refused::refusal_text;
 use crate::request::Request;
 use crate::request::read_request;
@@ -29,5 +30,11 @@ fn request_text(heap: Global, request: Request) -> Result<String, AllocError>
     match request {
         Request::Table(width, weight) => table_text(heap, width, weight),
         Request::Nearest(width, target, limit) => nearest_text(heap, width, target, limit),
+        Request::Plan(width, capacity, targets) => plan_text(
+            heap,
+            width,
+            capacity,
+            targets.as_slice(),
+        ),
     }
 }

@@ -5,7 +5,7 @@ use denote.Ref.{now}
 use Rattle.std.specs.Of.String.{string-bytes}
 use Rattle.std.specs.Options.{Cases}
 use Rattle.std.specs.Written.{decimal}
-use Rattle.std.proofs.shelf.Results.{cases-at-none, cases-at-some}
+use Rattle.std.proofs.shelf.Results.{cases-at-none, cases-at-some, made-weaker}
 use Rattle.shares.specs.Requests.{Spelled, Unspelled}
 use Rattle.shares.proofs.Words.{no-words, no-request}
 use Rattle.shares.proofs.request.read_request.Needs as need
@@ -24,4 +24,5 @@ returns c =
     let n = cases-at-some _ _ _ (c .in-Some-2 .is) (c .in-Continue-numbers .ensures tt) in
     let e = ap₂ (λ (w : List ℕ) (ws : List (List ℕ)). w ∷ ws) (c .as-str .ensures .value) (ap (λ (ns : List ℕ). map decimal ns) (c .as-slice .ensures .value) ∙ sym n)
     ∙ sym (ap (λ ws. map string-bytes ws) (c .in-Some .ensures tt .cases .0)) in
-    subst (λ (ws : List (List ℕ)). Cases (c .request-of .result) (Unspelled ws) (Spelled ws)) e (c .request-of .ensures)
+    made-weaker (c .request-of .result) (λ o. Cases o (Unspelled (now (c .as-str .result) ∷ map decimal (now (c .as-slice .result)))) (Spelled (now (c .as-str .result) ∷ map decimal (now (c .as-slice .result))))) _
+    (λ o h. subst (λ (ws : List (List ℕ)). Cases o (Unspelled ws) (Spelled ws)) e h) (c .request-of .ensures)
