@@ -18,7 +18,7 @@ use Rattle.rules.specs.declared.counter.Shares.{Shares}
 use Rattle.rules.specs.declared.rule.Rule.{Rule}
 use Rattle.rules.specs.declared.server.Server.{Server}
 use Rattle.rules.specs.declared.server.Server.the-variants.{One, Two}
-use Rattle.rules.specs.Counts.{in-block, Shared}
+use Rattle.rules.specs.Blocks.{in-block, Shared, Totals}
 use Rattle.rules.specs.Prefixes.{fits, all-fit, matches, first-match, same, tally, answered, Covers}
 use Rattle.rules.specs.Shortest.{L, Splits}
 use Rattle.rules.proofs.Bound.{least-rules}
@@ -147,12 +147,6 @@ halves-small W ps x s t l a b h e f =
     omega (arith, e, f, block-le W ps x s (2 ^ (l - 1)), block-le W ps x t (2 ^ (l - 1)), pow-mono {i = l - 1} {j = 24} (omega arith))
 
 -- ---- all addresses
-
-pub record Totals (W : ℕ) (rs : List Rule) (r : Shares) : Type 0 where
-  pub one : r .one ≡ answered W rs (Some One)
-  pub two : r .two ≡ answered W rs (Some Two)
-  pub unmatched : r .unmatched ≡ answered W rs None
-  pub all : r .one + r .two + r .unmatched ≡ 2 ^ W
 
 pub totals : (W w : ℕ) (rs : List Rule) (r : Shares) → w ≡ W → Shared W rs 0 (2 ^ w) r → Totals W rs r
 totals W w rs r e h =

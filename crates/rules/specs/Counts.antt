@@ -1,20 +1,14 @@
 -- What the counter answers.
 use mathlib.Core.Path.{_≡_}
-use mathlib.Core.Bool.{true}
 use mathlib.Core.List.{List}
-use Prim.Native.Nat.{ℕ, _+_, _*_, _^_, _<_, _≤_}
-use lib.ListN.{length, drop}
+use Prim.Native.Nat.{ℕ, _+_, _^_, _<_}
+use lib.ListN.{length}
 use Rattle.std.specs.Options.{Cases}
-use Rattle.std.specs.declared.option.Option.{Option}
 use Rattle.std.specs.declared.option.Option.the-variants.{Some, None}
-use Rattle.rules.specs.declared.counter.Block.{Block}
-use Rattle.rules.specs.declared.counter.Block.the-variants.{Decided, Cut}
 use Rattle.rules.specs.declared.counter.Count.{Count}
-use Rattle.rules.specs.declared.counter.Shares.{Shares}
 use Rattle.rules.specs.declared.rule.Rule.{Rule}
-use Rattle.rules.specs.declared.server.Server.{Server}
 use Rattle.rules.specs.declared.server.Server.the-variants.{One, Two}
-use Rattle.rules.specs.Prefixes.{first-match, same, tally, answered}
+use Rattle.rules.specs.Prefixes.{answered}
 use Rattle.rules.specs.Shortest.{L}
 
 -- The addresses of each server and those that no rule matches, which are all there are. Where every address is matched, the excess is by how many
@@ -25,23 +19,3 @@ pub record Counted (W : ℕ) (rs : List Rule) (c : Count) : Type 0 where
   pub unmatched : c .unmatched ≡ answered W rs None
   pub all : c .one + c .two + c .unmatched ≡ 2 ^ W
   pub excess : Cases (c .excess) (0 < c .unmatched) (λ x. (c .unmatched ≡ 0) × (x + L W (c .one) ≡ length rs))
-
--- ---- one block, the n addresses from s on
-
--- How many of them are answered with x.
-abbrev pub in-block : ℕ → List Rule → Option Server → ℕ → ℕ → ℕ
-in-block W rs x s n = tally (λ i. same x (first-match W rs (s + i))) n
-
-pub record Shared (W : ℕ) (rs : List Rule) (s n : ℕ) (r : Shares) : Type 0 where
-  pub one : r .one ≡ in-block W rs (Some One) s n
-  pub two : r .two ≡ in-block W rs (Some Two) s n
-  pub unmatched : r .unmatched ≡ in-block W rs None s n
-
--- All n addresses have the answer x.
-abbrev pub whole-block : Option Server → ℕ → Shares
-whole-block x n = record { one = same (Some One) x * n; two = same (Some Two) x * n; unmatched = same None x * n }
-
--- The block of 2 ^ l addresses has one answer, or more than one address, and the rules ahead of the place i do not matter in it.
-abbrev pub Seen : ℕ → List Rule → ℕ → ℕ → Block → Type 0
-Seen W rs s l (Decided x) = (a : ℕ) → s ≤ a → a < s + 2 ^ l → first-match W rs a ≡ x
-Seen W rs s l (Cut i) = (0 < l) × (i < length rs) × ((a : ℕ) → s ≤ a → a < s + 2 ^ l → first-match W (drop i rs) a ≡ first-match W rs a)

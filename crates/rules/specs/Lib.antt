@@ -1,3 +1,4 @@
+pub mod Blocks
 pub mod Counts
 pub mod Digits
 pub mod Grounds

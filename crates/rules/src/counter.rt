@@ -4,7 +4,8 @@ ghost use mathlib.Core.Bool.{true};
 ghost use Prim.Native.Nat.{_+_, _-_, _^_, _<_, _≤_};
 ghost use lib.ListN.{length};
 ghost use Rattle.std.specs.Vec.{made};
-ghost use Rattle.rules.specs.Counts.{Counted, Shared, Seen, whole-block};
+ghost use Rattle.rules.specs.Blocks.{Shared, Seen, Totals, whole-block};
+ghost use Rattle.rules.specs.Counts.{Counted};
 ghost use Rattle.rules.specs.Grounds.{count-grounds};
 ghost use Rattle.rules.specs.Prefixes.{fits, all-fit};
 ghost use Rattle.rules.specs.Refusals.{first, refusal};
@@ -44,7 +45,7 @@ fn count_all(width: Width, rules: &[Rule]) -> Count
     requires fit { ⌜ all-fit (width .bits) (now rules) ≡ true ⌝ }
     ensures { λ c. ⌜ Counted (width .bits) (now (rules .entry)) c ⌝ }
 {
-    let shares = count_block(width, width.bits(), 0, rules);
+    let shares = count_width(width, rules);
     let excess = if shares.unmatched == 0 {
         Some(rules.len() as u32 - fewest(width, shares.one))
     } else {
@@ -64,6 +65,14 @@ pub(crate) struct Shares {
     one: u32,
     two: u32,
     unmatched: u32,
+}
+
+// Counts all addresses of the width.
+fn count_width(width: Width, rules: &[Rule]) -> Shares
+    requires { ⌜ all-fit (width .bits) (now rules) ≡ true ⌝ }
+    ensures { λ r. ⌜ Totals (width .bits) (now (rules .entry)) r ⌝ }
+{
+    count_block(width, width.bits(), 0, rules)
 }
 
 // Counts the 2^left addresses from `start` on by halves. A block that one rule decides is not cut, and its halves look only at the rules from the

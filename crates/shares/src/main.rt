@@ -5,6 +5,8 @@ mod refused;
 mod report;
 mod request;
 mod tables;
+#[cfg(test)]
+mod tests;
 
 use report::answer;
 use std::env;

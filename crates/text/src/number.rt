@@ -23,3 +23,20 @@ pub fn read_number(text: &[u8]) -> Option<u32>
     }
     Some(value as u32)
 }
+
+#[cfg(test)]
+mod tests {
+    use super::read_number;
+    use std::test::*;
+
+    #[test]
+    fn numbers() -> Result<(), Fail> {
+        check_eq(read_number(b"0"), Some(0))?;
+        check_eq(read_number(b"4294967295"), Some(4_294_967_295))?;
+        check_eq(read_number(b"4294967296"), None)?;
+        check_eq(read_number(b"00"), None)?;
+        check_eq(read_number(b"+1"), None)?;
+        check_eq(read_number(b"1 "), None)?;
+        check_eq(read_number(b""), None)
+    }
+}

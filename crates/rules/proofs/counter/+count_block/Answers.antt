@@ -9,7 +9,7 @@ use Rattle.rules.specs.declared.counter.Shares.{Shares}
 use Rattle.rules.specs.declared.rule.Rule.{Rule}
 use Rattle.rules.specs.declared.server.Server.{Server}
 use Rattle.rules.specs.declared.server.Server.the-variants.{One, Two}
-use Rattle.rules.specs.Counts.{in-block}
+use Rattle.rules.specs.Blocks.{in-block}
 use Rattle.rules.specs.Prefixes.{first-match, same}
 use Rattle.rules.proofs.Blocks.{block-whole, block-sum, halves-small, double, fit-rest}
 use Rattle.rules.proofs.counter.+count_block.Needs as need
