@@ -17,12 +17,12 @@ use Rattle.rules.proofs.counter.+count_block.Needs as need
 pub count-block-low-requires : need.count-block-low-requires
 count-block-low-requires t c κs =
     let p = c .in-Cut .ensures tt .0 in
-    (omega arith, (omega arith, (omega (arith, double (c .args .left) p), fit-rest (c .args .width .bits) (c .in-Cut .index) _ _ (c .split-at .ensures .back) (c .pre .fit))))
+    (omega arith, (omega arith, (omega (arith, double (c .args .left) p), fit-rest (c .args .width .bits) _ _ _ (c .split-at .ensures .back) (c .pre .fit))))
 
 pub count-block-high-requires : need.count-block-high-requires
 count-block-high-requires t c κs =
     let p = c .in-Cut .ensures tt .0 in
-    (omega arith, (omega arith, (omega (arith, double (c .args .left) p), fit-rest (c .args .width .bits) (c .in-Cut .index) _ _ (c .split-at .ensures .back) (c .pre .fit))))
+    (omega arith, (omega arith, (omega (arith, double (c .args .left) p), fit-rest (c .args .width .bits) _ _ _ (c .split-at .ensures .back) (c .pre .fit))))
 
 pub add-result : need.add-result
 add-result t c =
