@@ -40,7 +40,7 @@ fn top(height: u32) -> u32
 }
 
 // A chain of `count` spare nodes.
-pub fn spare_nodes(heap: Global, count: usize) -> Result<Trie, AllocError>
+pub(crate) fn spare_nodes(heap: Global, count: usize) -> Result<Trie, AllocError>
     ensures { λ r. ⌜ made r (λ t. spares t ≡ count) ⌝ }
 {
     let mut chain = Trie::Empty;
@@ -54,7 +54,7 @@ pub fn spare_nodes(heap: Global, count: usize) -> Result<Trie, AllocError>
 
 impl Trie {
     // The server at a prefix: `length` bits of a value that has `height` bits.
-    pub fn held(&self, height: u32, value: u32, length: u32) -> Option<Server>
+    pub(crate) fn held(&self, height: u32, value: u32, length: u32) -> Option<Server>
         requires { ⌜ length ≤ height ⌝ ∗ ⌜ height ≤ 32 ⌝ }
         ensures { λ r. ⌜ r ≡ at-bits (now (self .entry)) height length value ⌝ }
     {
@@ -75,7 +75,7 @@ impl Trie {
     }
 
     // The server of the longest prefix of a key.
-    pub fn look(&self, key: u32) -> Option<Server>
+    pub(crate) fn look(&self, key: u32) -> Option<Server>
         ensures { λ r. ⌜ r ≡ look-in (now (self .entry)) 32 key ⌝ }
     {
         let mut node = self;
@@ -161,7 +161,14 @@ impl Trie {
     }
 
     // Holds a server at a prefix; nodes come off the chain.
-    pub fn insert(&mut self, chain: &mut Trie, height: u32, value: u32, length: u32, server: Server)
+    pub(crate) fn insert(
+        &mut self,
+        chain: &mut Trie,
+        height: u32,
+        value: u32,
+        length: u32,
+        server: Server,
+    )
         requires path { ⌜ Within height length value ⌝ }
         requires low { ⌜ height ≤ 32 ⌝ }
         requires some { ⌜ length < spares (now chain) ⌝ }
@@ -205,7 +212,7 @@ impl Trie {
     }
 
     // Holds nothing at a prefix; bare nodes go back to the chain.
-    pub fn erase(&mut self, chain: &mut Trie, height: u32, value: u32, length: u32)
+    pub(crate) fn erase(&mut self, chain: &mut Trie, height: u32, value: u32, length: u32)
         requires path { ⌜ Within height length value ⌝ }
         requires low { ⌜ height ≤ 32 ⌝ }
         ensures { λ _. ⌜ Erased (now (self .entry)) (now (self .exit)) (now (chain .entry)) (now (chain .exit)) height length value neat ⌝ }
@@ -215,7 +222,7 @@ impl Trie {
     }
 
     // All nodes go back to the chain.
-    pub fn release(&mut self, chain: &mut Trie)
+    pub(crate) fn release(&mut self, chain: &mut Trie)
         ensures empty { λ _. ⌜ is-node (now (self .exit)) ≡ false ⌝ }
         ensures chain { λ _. ⌜ spares (now (chain .exit)) ≡ spares (now (chain .entry)) + nodes (now (self .entry)) ⌝ }
     {
