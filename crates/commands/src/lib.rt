@@ -1,4 +1,6 @@
 // The console: lines taken apart, orders run to rest, and answers as text.
+#![tactic(auto)]
+
 pub mod command;
 pub mod console;
 pub mod filling;

@@ -1,4 +1,6 @@
 // Memories of prefix rules over keys of 32 bits.
+#![tactic(auto)]
+
 pub mod branches;
 pub mod contents;
 pub mod key;

@@ -1,4 +1,6 @@
 // Planning the weights of all services of a switch within its rule memory.
+#![tactic(auto)]
+
 mod admission;
 pub mod even;
 pub mod measure;

@@ -1,4 +1,6 @@
 // Prefix rules, and the shortest table that gives server 1 a weight.
+#![tactic(auto)]
+
 pub mod counter;
 pub mod fewest;
 pub mod neighbours;

@@ -1,4 +1,6 @@
 // A what-if calculator for one service on the command line.
+#![tactic(auto)]
+
 mod nearest;
 mod plans;
 mod refused;

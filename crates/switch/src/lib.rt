@@ -1,4 +1,6 @@
 // One switch: a register of services, a rule memory, and the nine calls that plan and change what the memory holds.
+#![tactic(auto)]
+
 pub mod accepting;
 mod change;
 pub mod closing;

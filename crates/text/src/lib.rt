@@ -1,2 +1,4 @@
 // Numbers as the product's lines and arguments spell them.
+#![tactic(auto)]
+
 pub mod number;

@@ -12,9 +12,9 @@ returns-in-err-width c =
 
 pub returns : goal.returns
 returns c =
-    let e = c.fewest.ensures ∙ ap (λ (W : ℕ). L W c.args.weight) c.in-ok-width.ensures.kept.0 in
+    let e = c.fewest.ensures ∙ ap (λ (W : ℕ). L W c.args.weight) c.in_ok-width.ensures.kept.0 in
     record {
-      refused = c.in-ok-width.ensures.refused;
+      refused = c.in_ok-width.ensures.refused;
       count = e;
       least = subst (λ (n : ℕ). LeastRules c.args.width c.args.weight n) (sym e) (least_rules c.args.width c.args.weight);
       digits = digit_laws;

@@ -6,7 +6,7 @@ use Rattle.rules.proofs.shortest.shortest_table.Goals as goal
 
 pub returns : goal.returns
 returns c =
-    let k = c.in-ok-width.ensures in
+    let k = c.in_ok-width.ensures in
     let e = c.begin.ensures ∙ ap (λ (W : ℕ). table W c.args.weight) k.kept.0 in
     record {
       refused = k.refused;

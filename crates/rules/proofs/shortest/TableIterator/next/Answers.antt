@@ -22,7 +22,7 @@ loop-self-preserved c =
     let t = c.loop-self.self in
     let p : t.place ≡ t.place - 1 + 1 = omega arith in (
       c.loop-self.invariant.0,
-      c.loop-self.invariant.1 ∙ come_begun t c.loop-self.invariant.0 ∙ ap (left_at t) p ∙ c.in-default.ensures ∙ sym (come_begun _ c.loop-self.invariant.0),
+      c.loop-self.invariant.1 ∙ come_begun t c.loop-self.invariant.0 ∙ ap (left_at t) p ∙ c.in_default.ensures ∙ sym (come_begun _ c.loop-self.invariant.0),
     )
 
 pub returns : goal.returns

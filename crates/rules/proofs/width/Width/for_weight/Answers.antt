@@ -15,12 +15,12 @@ returns-in-err-width c =
 
 pub returns-then-weight-addresses : goal.returns-then-weight-addresses
 returns-then-weight-addresses c =
-    let k : 2 ^ c.args.bits < c.args.weight = omega (arith, ap (λ (n : ℕ). 2 ^ n) c.in-ok-width.ensures.kept) in
-    let e = passed_by (width_grounds c.args.bits) ((BeyondWidth when ltb (2 ^ c.args.bits) c.args.weight) ∷ []) c.in-ok-width.ensures.refused in
+    let k : 2 ^ c.args.bits < c.args.weight = omega (arith, ap (λ (n : ℕ). 2 ^ n) c.in_ok-width.ensures.kept) in
+    let e = passed_by (width_grounds c.args.bits) ((BeyondWidth when ltb (2 ^ c.args.bits) c.args.weight) ∷ []) c.in_ok-width.ensures.refused in
     record { refused = grind (arith, nat_tests, e); kept = tt }
 
 pub returns : goal.returns
 returns c =
-    let k : c.args.weight ≤ 2 ^ c.args.bits = omega (arith, ap (λ (n : ℕ). 2 ^ n) c.in-ok-width.ensures.kept) in
-    let e = passed_by (width_grounds c.args.bits) ((BeyondWidth when ltb (2 ^ c.args.bits) c.args.weight) ∷ []) c.in-ok-width.ensures.refused in
-    record { refused = grind (arith, nat_tests, e); kept = (c.in-ok-width.ensures.kept, k) }
+    let k : c.args.weight ≤ 2 ^ c.args.bits = omega (arith, ap (λ (n : ℕ). 2 ^ n) c.in_ok-width.ensures.kept) in
+    let e = passed_by (width_grounds c.args.bits) ((BeyondWidth when ltb (2 ^ c.args.bits) c.args.weight) ∷ []) c.in_ok-width.ensures.refused in
+    record { refused = grind (arith, nat_tests, e); kept = (c.in_ok-width.ensures.kept, k) }
