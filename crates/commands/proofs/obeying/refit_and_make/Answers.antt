@@ -11,9 +11,9 @@ returns g c =
     let d : Desk = desk c.args.register.now in
     let v : View = view g.M.Reader g.M.RuleMemory c.args.memory.now in
     let v' : View = view g.M.Reader g.M.RuleMemory c.refit.new.self in
-    let fitted = c.in-ok-refit.ensures.fitted in
-    let done = c.in-ok-resting.ensures in
-    begins (g.M.Fitting.most c.args.memory.now) c.args.width c.args.capacity d (desk c.make.new.register) v v' c.in-ok-resting.resting
-    (omega (arith, c.if-capacity-ceiling.false, c.ceiling.ensures)) c.in-ok-new.ensures.refused done.refused
+    let fitted = c.in_ok-refit.ensures.fitted in
+    let done = c.in_ok-resting.ensures in
+    begins (g.M.Fitting.most c.args.memory.now) c.args.width c.args.capacity d (desk c.make.new.register) v v' c.in_ok-resting.resting
+    (omega (arith, c.if-capacity-ceiling.false, c.ceiling.ensures)) c.in_ok-new.ensures.refused done.refused
     (done.register ∙ ap (λ (o : Option Refusal). kept_if o d (fresh c.args.width v'.limit)) (sym done.refused) ∙ ap (fresh c.args.width) fitted.fits)
     fitted.fits fitted.counts (g.met.M.Reader.counted c.refit.new.self)

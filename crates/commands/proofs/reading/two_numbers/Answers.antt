@@ -8,25 +8,25 @@ use Rattle.commands.proofs.reading.two_numbers.Goals as goal
 parts : (text front back : List ℕ) (m n : ℕ) → text ≡ front ++ 32 ∷ back → Without 32 front → m < 2 ^ 32 → text ≡ decimal m ++ 32 ∷ decimal n → (front ≡ decimal m) × (back ≡ decimal n)
 parts text front back m n e w h f = same_parts 32 front back (decimal m) (decimal n) w (decimal_without 32 m (lit< tt) h) (sym e ∙ f)
 
-pub returns-in-err-front : goal.returns-in-err-front
-returns-in-err-front c =
-    let p = err_from_is_err_and c.from-residual.result c.from-residual.ensures.1 in
+pub returns-in_err-front : goal.returns-in_err-front
+returns-in_err-front c =
+    let p = err_from_is_err_and c.from_residual.result c.from_residual.ensures.1 in
     rw p.1 (
-      p.2 ∙ c.in-err-front.ensures.0,
-      λ m n h k e. not_without 32 (decimal m) (decimal n) (subst (Without 32) e c.in-err-front.ensures.1),
+      p.2 ∙ c.in_err-front.ensures.0,
+      λ m n h k e. not_without 32 (decimal m) (decimal n) (subst (Without 32) e c.in_err-front.ensures.1),
     )
 
-pub returns-in-default : goal.returns-in-default
-returns-in-default c =
-    let s = c.in-ok-front.ensures in
-    (refl, λ m n h k e. c.in-default.ensures m h (parts _ _ _ m n s.0 s.1 h e).0)
+pub returns-in_default : goal.returns-in_default
+returns-in_default c =
+    let s = c.in_ok-front.ensures in
+    (refl, λ m n h k e. c.in_default.ensures m h (parts _ _ _ m n s.0 s.1 h e).0)
 
-pub returns-in-default-read-number : goal.returns-in-default-read-number
-returns-in-default-read-number c =
-    let s = c.in-ok-front.ensures in
-    (refl, λ m n h k e. c.in-default-read-number.ensures n k (parts _ _ _ m n s.0 s.1 h e).1)
+pub returns-in_default-read_number : goal.returns-in_default-read_number
+returns-in_default-read_number c =
+    let s = c.in_ok-front.ensures in
+    (refl, λ m n h k e. c.in_default-read_number.ensures n k (parts _ _ _ m n s.0 s.1 h e).1)
 
 pub returns : goal.returns
 returns c =
-    c.in-ok-front.ensures.0
-    ∙ ap₂ (λ (xs ys : List ℕ). xs ++ 32 ∷ ys) c.in-Some.ensures c.in-Some-read-number.ensures
+    c.in_ok-front.ensures.0
+    ∙ ap₂ (λ (xs ys : List ℕ). xs ++ 32 ∷ ys) c.in-Some.ensures c.in-Some-read_number.ensures

@@ -15,12 +15,12 @@ loop-taken-preserved g c = λ miss W R ts o h.
     let d' : Desk = desk c.step.new.register in
     let v : View = view g.M.Reader g.M.RuleMemory c.loop-taken.memory in
     let v' : View = view g.M.Reader g.M.RuleMemory c.step.new.memory in
-    subst (λ (n : ℕ). Kept miss (model W R ts (changing o n)) (state.Changing c.in-ok-changing.changing) d' v') one
+    subst (λ (n : ℕ). Kept miss (model W R ts (changing o n)) (state.Changing c.in_ok-changing.changing) d' v') one
     (steps_on miss W R ts o left pos c.loop-taken.changing d d' v v' (c.loop-taken.invariant miss W R ts o h) (g.met.M.Reader.counted c.loop-taken.memory)
-    c.step.ensures.register c.step.ensures.held c.step.ensures.limit c.in-ok-changing.changing c.in-ok-changing.ensures.refused)
+    c.step.ensures.register c.step.ensures.held c.step.ensures.limit c.in_ok-changing.changing c.in_ok-changing.ensures.refused)
 
-pub returns-in-err-changing : goal.returns-in-err-changing
-returns-in-err-changing g c = λ miss W R ts o h.
+pub returns-in_err-changing : goal.returns-in_err-changing
+returns-in_err-changing g c = λ miss W R ts o h.
     let left : ℕ = c.args.steps - c.loop-taken.-taken in
     let pos : 0 < left = omega (arith, c.loop-taken-test.true) in
     let d : Desk = desk c.loop-taken.register in
@@ -28,7 +28,7 @@ returns-in-err-changing g c = λ miss W R ts o h.
     let v : View = view g.M.Reader g.M.RuleMemory c.loop-taken.memory in
     let v' : View = view g.M.Reader g.M.RuleMemory c.step.new.memory in
     absurd (never_stuck miss W R ts o left pos c.loop-taken.changing d d' v v' (c.loop-taken.invariant miss W R ts o h) (g.met.M.Reader.counted c.loop-taken.memory)
-    c.step.ensures.register c.step.ensures.held c.step.ensures.limit c.in-err-changing.field-0.0 c.in-err-changing.ensures.refused)
+    c.step.ensures.register c.step.ensures.held c.step.ensures.limit c.in_err-changing.field-0.0 c.in_err-changing.ensures.refused)
 
 pub returns : goal.returns
 returns g c = λ miss W R ts o h.

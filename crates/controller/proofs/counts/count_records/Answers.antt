@@ -14,15 +14,15 @@ use Rattle.controller.proofs.counts.count_records.Goals as goal
 abbrev later : ℕ → List ℕ → List Ground
 later W bytes = (RuleCountOutOfRange when ltb 8192 (length bytes)) ∷ (BrokenLayout when not (in_layout W bytes)) ∷ []
 
-pub returns-in-err-new : goal.returns-in-err-new
-returns-in-err-new c =
-    let p = err_from_is_err_and c.from-residual.result c.from-residual.ensures.1 in
-    let e = refused_by _ (width_grounds c.args.width) (later c.args.width c.args.records.now) c.in-err-new.ensures.refused in
+pub returns-in_err-new : goal.returns-in_err-new
+returns-in_err-new c =
+    let p = err_from_is_err_and c.from_residual.result c.from_residual.ensures.1 in
+    let e = refused_by _ (width_grounds c.args.width) (later c.args.width c.args.records.now) c.in_err-new.ensures.refused in
     rw (p.1, p.2) (record { refused = e; counted = tt })
 
 pub returns-then-records : goal.returns-then-records
 returns-then-records c =
-    let e = passed_by (width_grounds c.args.width) (later c.args.width c.args.records.now) c.in-ok-new.ensures.refused in
+    let e = passed_by (width_grounds c.args.width) (later c.args.width c.args.records.now) c.in_ok-new.ensures.refused in
     record { refused = grind (arith, nat_tests, e); counted = tt }
 
 pub returns : goal.returns
@@ -32,10 +32,10 @@ returns c =
     let n = c.in-Some.count in
     let read = c.in-Some.ensures in
     let whole : n ≡ n - 0 = omega arith in
-    let rs = take (n - 0) c.read-rules.new.rules in
-    let e : rules_in bytes ≡ Some rs = read.1 ∙ ap (λ (m : ℕ). Some (take m c.read-rules.new.rules)) whole in
+    let rs = take (n - 0) c.read_rules.new.rules in
+    let e : rules_in bytes ≡ Some rs = read.1 ∙ ap (λ (m : ℕ). Some (take m c.read_rules.new.rules)) whole in
     record {
-      refused = c.count-addresses.ensures.refused
-          ∙ same_grounds W bytes rs e (omega arith) (omega (arith, read.0, length-take (n - 0) c.read-rules.new.rules));
-      counted = read_and_counted W bytes rs e (λ i. omega (arith, c.type-inv.records i)) c.count-addresses.result c.count-addresses.ensures.refused c.count-addresses.ensures.counted;
+      refused = c.count_addresses.ensures.refused
+          ∙ same_grounds W bytes rs e (omega arith) (omega (arith, read.0, length-take (n - 0) c.read_rules.new.rules));
+      counted = read_and_counted W bytes rs e (λ i. omega (arith, c.type-inv.records i)) c.count_addresses.result c.count_addresses.ensures.refused c.count_addresses.ensures.counted;
     }

@@ -3,4 +3,4 @@ use Rattle.std.proofs.lemmas.Bool.Decides.{nat_tests}
 use Rattle.controller.proofs.records.read_rule.Goals as goal
 
 pub returns : goal.returns
-returns c = grind (arith, nat_tests, c.in-ok-server.ensures)
+returns c = grind (arith, nat_tests, c.in_ok-server.ensures)

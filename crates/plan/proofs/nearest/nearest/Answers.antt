@@ -12,7 +12,7 @@ returns g c =
     let t : ℕ = c.args.target in
     let n : ℕ = c.args.limit in
     let m : Misses = g.E.Measure.miss c.args.measure.now in
-    let found = c.in-ok-pair.ensures in
+    let found = c.in_ok-pair.ensures in
     let k = limited W t n found.refused in
     let i : Nearest m W t n c.pick.result =
     subst (λ (x : ℕ). Nearest m W t n x) (sym c.pick.ensures)

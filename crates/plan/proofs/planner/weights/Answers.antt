@@ -6,8 +6,8 @@ use Rattle.plan.specs.Reached.{need_in, noted_weights}
 use Rattle.plan.proofs.ByTags.{every_at, by_tag_long, by_tag_at}
 use Rattle.plan.proofs.planner.weights.Goals as goal
 
-pub nearest-within-requires : goal.nearest-within-requires
-nearest-within-requires g c = (
+pub nearest_within-requires : goal.nearest_within-requires
+nearest_within-requires g c = (
   every_at (λ r. r.target ≤ 2 ^ c.args.width.bits) c.args.reaches.now c.loop-i.i c.in-Some.reach c.requires c.in-Some.is,
   omega (arith, c.need.ensures.value),
 )

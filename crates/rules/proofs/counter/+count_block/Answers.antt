@@ -8,38 +8,38 @@ use Rattle.rules.specs.Prefixes.{first_match, same}
 use Rattle.rules.proofs.Blocks.{block_whole, block_sum, halves_small, double, fit_rest}
 use Rattle.rules.proofs.counter.+count_block.Goals as goal
 
-pub count-block-low-requires : goal.count-block-low-requires
-count-block-low-requires t c =
+pub count_block-low-requires : goal.count_block-low-requires
+count_block-low-requires t c =
     let p = c.in-Cut.ensures.0 in
-    (omega arith, (omega arith, (omega (arith, double c.args.left p), fit_rest c.args.width.bits _ _ _ c.split-at.ensures.back c.requires.fit)))
+    (omega arith, (omega arith, (omega (arith, double c.args.left p), fit_rest c.args.width.bits _ _ _ c.split_at.ensures.back c.requires.fit)))
 
-pub count-block-high-requires : goal.count-block-high-requires
-count-block-high-requires t c =
+pub count_block-high-requires : goal.count_block-high-requires
+count_block-high-requires t c =
     let p = c.in-Cut.ensures.0 in
-    (omega arith, (omega arith, (omega (arith, double c.args.left p), fit_rest c.args.width.bits _ _ _ c.split-at.ensures.back c.requires.fit)))
+    (omega arith, (omega arith, (omega (arith, double c.args.left p), fit_rest c.args.width.bits _ _ _ c.split_at.ensures.back c.requires.fit)))
 
-pub overflow-add-result : goal.overflow-add-result
-overflow-add-result t c =
+pub overflow_add-result : goal.overflow_add-result
+overflow_add-result t c =
     omega (
       arith,
-      halves_small c.args.width.bits c.split-at.result.1.now (Some One) c.args.start _ c.args.left _ _ (omega (arith, c.args.width.most)) c.count-block-low.ensures.one
-          c.count-block-high.ensures.one,
+      halves_small c.args.width.bits c.split_at.result.1.now (Some One) c.args.start _ c.args.left _ _ (omega (arith, c.args.width.most)) c.count_block-low.ensures.one
+          c.count_block-high.ensures.one,
     )
 
-pub overflow-add-result-in-Cut : goal.overflow-add-result-in-Cut
-overflow-add-result-in-Cut t c =
+pub overflow_add-result-in-Cut : goal.overflow_add-result-in-Cut
+overflow_add-result-in-Cut t c =
     omega (
       arith,
-      halves_small c.args.width.bits c.split-at.result.1.now (Some Two) c.args.start _ c.args.left _ _ (omega (arith, c.args.width.most)) c.count-block-low.ensures.two
-          c.count-block-high.ensures.two,
+      halves_small c.args.width.bits c.split_at.result.1.now (Some Two) c.args.start _ c.args.left _ _ (omega (arith, c.args.width.most)) c.count_block-low.ensures.two
+          c.count_block-high.ensures.two,
     )
 
-pub overflow-add-result-in-Cut-2 : goal.overflow-add-result-in-Cut-2
-overflow-add-result-in-Cut-2 t c =
+pub overflow_add-result-in-Cut-2 : goal.overflow_add-result-in-Cut-2
+overflow_add-result-in-Cut-2 t c =
     omega (
       arith,
-      halves_small c.args.width.bits c.split-at.result.1.now None c.args.start _ c.args.left _ _ (omega (arith, c.args.width.most)) c.count-block-low.ensures.unmatched
-          c.count-block-high.ensures.unmatched,
+      halves_small c.args.width.bits c.split_at.result.1.now None c.args.start _ c.args.left _ _ (omega (arith, c.args.width.most)) c.count_block-low.ensures.unmatched
+          c.count_block-high.ensures.unmatched,
     )
 
 pub returns-in-Decided : goal.returns-in-Decided
@@ -56,10 +56,10 @@ pub returns-in-Cut : goal.returns-in-Cut
 returns-in-Cut t c =
     let p = c.in-Cut.ensures in
     let like : (a : ℕ) → c.args.start ≤ a → a < c.args.start + 2 ^ c.args.left
-    → first_match c.args.width.bits c.split-at.result.1.now a ≡ first_match c.args.width.bits c.args.rules.now a
-    = λ a lo hi. ap (λ (rs : List Rule). first_match c.args.width.bits rs a) c.split-at.ensures.back ∙ p.2 a lo hi in
+    → first_match c.args.width.bits c.split_at.result.1.now a ≡ first_match c.args.width.bits c.args.rules.now a
+    = λ a lo hi. ap (λ (rs : List Rule). first_match c.args.width.bits rs a) c.split_at.ensures.back ∙ p.2 a lo hi in
     record {
-      one = block_sum c.args.width.bits _ _ (Some One) c.args.start c.args.left _ _ _ p.0 c.power-in-Cut.ensures like c.count-block-low.ensures.one c.count-block-high.ensures.one;
-      two = block_sum c.args.width.bits _ _ (Some Two) c.args.start c.args.left _ _ _ p.0 c.power-in-Cut.ensures like c.count-block-low.ensures.two c.count-block-high.ensures.two;
-      unmatched = block_sum c.args.width.bits _ _ None c.args.start c.args.left _ _ _ p.0 c.power-in-Cut.ensures like c.count-block-low.ensures.unmatched c.count-block-high.ensures.unmatched;
+      one = block_sum c.args.width.bits _ _ (Some One) c.args.start c.args.left _ _ _ p.0 c.power-in-Cut.ensures like c.count_block-low.ensures.one c.count_block-high.ensures.one;
+      two = block_sum c.args.width.bits _ _ (Some Two) c.args.start c.args.left _ _ _ p.0 c.power-in-Cut.ensures like c.count_block-low.ensures.two c.count_block-high.ensures.two;
+      unmatched = block_sum c.args.width.bits _ _ None c.args.start c.args.left _ _ _ p.0 c.power-in-Cut.ensures like c.count_block-low.ensures.unmatched c.count_block-high.ensures.unmatched;
     }

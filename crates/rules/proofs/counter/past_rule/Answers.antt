@@ -2,11 +2,11 @@ use Rattle.std.proofs.Common.{ℕ, ◌+◌, ◌-◌, ◌^◌, ap, arith, pow_mon
 use Rattle.rules.proofs.Shapes.{shape}
 use Rattle.rules.proofs.counter.past_rule.Goals as goal
 
-pub overflow-sub-bits : goal.overflow-sub-bits
-overflow-sub-bits c = let f = shape c.args.width.bits c.args.rule c.requires in omega (arith, f.short)
+pub overflow_sub-bits : goal.overflow_sub-bits
+overflow_sub-bits c = let f = shape c.args.width.bits c.args.rule c.requires in omega (arith, f.short)
 
-pub overflow-add-result : goal.overflow-add-result
-overflow-add-result c =
+pub overflow_add-result : goal.overflow_add-result
+overflow_add-result c =
     let f = shape c.args.width.bits c.args.rule c.requires in
     omega (
       arith,

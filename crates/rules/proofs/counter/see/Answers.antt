@@ -8,8 +8,8 @@ use Rattle.rules.proofs.counter.see.Goals as goal
 abbrev none : Rule
 none = record { start = 0; length = 0; server = One }
 
-pub past-rule-past-requires : goal.past-rule-past-requires
-past-rule-past-requires c =
+pub past_rule-past-requires : goal.past_rule-past-requires
+past_rule-past-requires c =
     fit_at c.args.width.bits c.loop-index.index c.args.rules.now none c.loop-index-test.true c.requires.fit
 
 pub returns-then-end-past : goal.returns-then-end-past

@@ -5,10 +5,10 @@ use Rattle.rules.proofs.Bound.{least_rules}
 use Rattle.rules.proofs.Minimal.{digit_laws}
 use Rattle.rules.proofs.fewest.fewest_rules.Goals as goal
 
-pub returns-in-err-width : goal.returns-in-err-width
-returns-in-err-width c =
-    let p = err_from_is_err_and c.from-residual.result c.from-residual.ensures.1 in
-    rw (p.1, p.2) (record { refused = c.in-err-width.ensures.refused; count = tt; least = tt; digits = digit_laws })
+pub returns-in_err-width : goal.returns-in_err-width
+returns-in_err-width c =
+    let p = err_from_is_err_and c.from_residual.result c.from_residual.ensures.1 in
+    rw (p.1, p.2) (record { refused = c.in_err-width.ensures.refused; count = tt; least = tt; digits = digit_laws })
 
 pub returns : goal.returns
 returns c =

@@ -5,8 +5,8 @@ use Rattle.switch.specs.declared.register.Register.{Register}
 use Rattle.switch.proofs.Registered.{comes}
 use Rattle.switch.proofs.closing.settle.Goals as goal
 
-pub invariant-of-register : goal.invariant-of-register
-invariant-of-register c =
+pub invariant_of-register : goal.invariant_of-register
+invariant_of-register c =
     let r : Register = c.args.register.now in
     let k = comes r c.in-Some.change c.in-Some.is in
     let e : coming c.in-Some.change.order r.targets ≡ c.apply-targets.result = sym c.apply-targets.ensures.value in (

@@ -5,14 +5,14 @@ use Rattle.switch.proofs.decimals.+write_digits.Goals as goal
 pub bounds-out-0 : goal.bounds-out-0
 bounds-out-0 t c = omega (arith, one_digit c.args.n (omega arith))
 
-pub write-digits-k-requires : goal.write-digits-k-requires
-write-digits-k-requires t c = let e = one_more c.args.n (omega arith) (omega arith) in (omega arith, omega arith)
+pub write_digits-k-requires : goal.write_digits-k-requires
+write_digits-k-requires t c = let e = one_more c.args.n (omega arith) (omega arith) in (omega arith, omega arith)
 
 pub bounds-out-k : goal.bounds-out-k
 bounds-out-k t c = omega (arith, one_more c.args.n (omega arith) (omega arith))
 
-pub overflow-add-result : goal.overflow-add-result
-overflow-add-result t c = omega (arith, one_more c.args.n (omega arith) (omega arith))
+pub overflow_add-result : goal.overflow_add-result
+overflow_add-result t c = omega (arith, one_more c.args.n (omega arith) (omega arith))
 
 pub returns-then-n-lt10 : goal.returns-then-n-lt10
 returns-then-n-lt10 t c = record {
@@ -25,5 +25,5 @@ returns-else-n-lt10 t c =
     let l = one_more c.args.n (omega arith) (omega arith) in
     record {
       value = omega (arith, l);
-      bytes = last_digit c.args.out.now c.write-digits-k.new.out c.args.n c.write-digits-k.result (omega arith) (omega arith) c.write-digits-k.ensures.bytes c.write-digits-k.ensures.value (omega (arith, l));
+      bytes = last_digit c.args.out.now c.write_digits-k.new.out c.args.n c.write_digits-k.result (omega arith) (omega arith) c.write_digits-k.ensures.bytes c.write_digits-k.ensures.value (omega (arith, l));
     }

@@ -11,8 +11,8 @@ loop-tag-init c =
     let ds = c.args.weights.now in
     (omega (arith, ap length (lines_all W ds)), omega (arith, ap length (all_tags W ds)), omega arith, omega arith)
 
-pub measure-table-table-requires : goal.measure-table-table-requires
-measure-table-table-requires c = fit_at c.args.width.bits c.args.weights.now c.loop-tag.tag c.requires
+pub measure_table-table-requires : goal.measure_table-table-requires
+measure_table-table-requires c = fit_at c.args.width.bits c.args.weights.now c.loop-tag.tag c.requires
 
 pub loop-tag-preserved : goal.loop-tag-preserved
 loop-tag-preserved c =
@@ -20,7 +20,7 @@ loop-tag-preserved c =
     let ds = c.args.weights.now in
     let i = c.loop-tag.tag in
     let inv = c.loop-tag.invariant in
-    let t = c.measure-table-table.ensures in (
+    let t = c.measure_table-table.ensures in (
       omega (arith, inv.0, t.bytes, ap length (lines_more W ds i (omega arith)), length-append (lines (of_tag W ds i)) (lines (from_tag W ds (i + 1)))),
       omega (arith, inv.1, t.count, ap length (tag_more W ds i (omega arith)), length-append (of_tag W ds i) (from_tag W ds (i + 1))),
       omega (arith, inv.2, t.small),

@@ -30,37 +30,37 @@ module _ (s : Standing) (o : List ℕ) where
   server_left : (u : ℕ) (out : List ℕ) → Filled (line s) o u (after_length s) out → Filled (line s) o u (after_length s ++ []) out
   server_left u out f = filled_as (line s) o (after_length s) (after_length s ++ []) out u (sym (append-nil (after_length s))) f
 
-pub append-number-tag-end-requires : goal.append-number-tag-end-requires
-append-number-tag-end-requires c =
+pub append_number-tag_end-requires : goal.append_number-tag_end-requires
+append_number-tag_end-requires c =
     let s = under c.args.tag c.args.rule in
     let o = c.args.out.now in
     omega (arith, part_fits (line s) o (numbered s.tag 32) (after_tag s) o 0 (filled_none (line s) o))
 
-pub append-number-start-end-requires : goal.append-number-start-end-requires
-append-number-start-end-requires c =
+pub append_number-start_end-requires : goal.append_number-start_end-requires
+append_number-start_end-requires c =
     let s = under c.args.tag c.args.rule in
     let o = c.args.out.now in
-    let a = c.append-number-tag-end in
+    let a = c.append_number-tag_end in
     let f = tag_written s o a.result a.new.out a.ensures.value a.ensures.bytes in
     omega (arith, part_fits (line s) o (numbered s.rule.start 32) (after_start s) a.new.out a.result f)
 
-pub append-number-length-end-requires : goal.append-number-length-end-requires
-append-number-length-end-requires c =
+pub append_number-length_end-requires : goal.append_number-length_end-requires
+append_number-length_end-requires c =
     let s = under c.args.tag c.args.rule in
     let o = c.args.out.now in
-    let a = c.append-number-tag-end in
-    let b = c.append-number-start-end in
+    let a = c.append_number-tag_end in
+    let b = c.append_number-start_end in
     let f = tag_written s o a.result a.new.out a.ensures.value a.ensures.bytes in
     let g = start_written s o a.result b.result a.new.out b.new.out f b.ensures.value b.ensures.bytes in
     omega (arith, part_fits (line s) o (numbered s.rule.length 32) (after_length s) b.new.out b.result g)
 
-pub append-number-requires : goal.append-number-requires
-append-number-requires c =
+pub append_number-requires : goal.append_number-requires
+append_number-requires c =
     let s = under c.args.tag c.args.rule in
     let o = c.args.out.now in
-    let a = c.append-number-tag-end in
-    let b = c.append-number-start-end in
-    let d = c.append-number-length-end in
+    let a = c.append_number-tag_end in
+    let b = c.append_number-start_end in
+    let d = c.append_number-length_end in
     let f = tag_written s o a.result a.new.out a.ensures.value a.ensures.bytes in
     let g = start_written s o a.result b.result a.new.out b.new.out f b.ensures.value b.ensures.bytes in
     let h = length_written s o b.result d.result b.new.out d.new.out g d.ensures.value d.ensures.bytes in
@@ -74,10 +74,10 @@ pub returns : goal.returns
 returns c =
     let s = under c.args.tag c.args.rule in
     let o = c.args.out.now in
-    let a = c.append-number-tag-end in
-    let b = c.append-number-start-end in
-    let d = c.append-number-length-end in
-    let e = c.append-number in
+    let a = c.append_number-tag_end in
+    let b = c.append_number-start_end in
+    let d = c.append_number-length_end in
+    let e = c.append_number in
     let f = tag_written s o a.result a.new.out a.ensures.value a.ensures.bytes in
     let g = start_written s o a.result b.result a.new.out b.new.out f b.ensures.value b.ensures.bytes in
     let h = length_written s o b.result d.result b.new.out d.new.out g d.ensures.value d.ensures.bytes in

@@ -7,14 +7,14 @@ use Rattle.switch.proofs.Filling.{Filled, lent_long, filled_as, turn, turn_room,
 use Rattle.switch.proofs.Lining.{rule_more}
 use Rattle.switch.proofs.listing.write_table.Goals as goal
 
-pub write-line-used-requires : goal.write-line-used-requires
-write-line-used-requires c =
+pub write_line-used-requires : goal.write_line-used-requires
+write_line-used-requires c =
     let t = c.args.tag in
     let r = c.in-Some-rule.rule in
     let rs = to_come c.loop-rule.rule-iterator in
     let more = to_come c.next.new.self in
-    let text = lines (map (under t) (to_come c.into-iter-rule-iterator.result)) in
-    let all = ap to_come c.into-iter-rule-iterator.ensures.into-iter-gives ∙ c.table-for-rule-items.ensures.rules ∙ ap (table_of c.args.width.bits) (sym c.in-Some.is) in
+    let text = lines (map (under t) (to_come c.into_iter-rule-iterator.result)) in
+    let all = ap to_come c.into_iter-rule-iterator.ensures.into_iter-gives ∙ c.table_for-rule-items.ensures.rules ∙ ap (table_of c.args.width.bits) (sym c.in-Some.is) in
     omega (
       arith,
       turn_room text c.args.out.now (lines (map (under t) rs)) c.loop-rule.out (line (under t r)) (lines (map (under t) more)) c.loop-rule.used c.loop-rule.invariant (rule_more t rs more r c.in-Some-rule.ensures.steps),
@@ -22,14 +22,14 @@ write-line-used-requires c =
       lent_long c.loop-rule.out c.loop-rule.used,
     )
 
-pub overflow-add-used : goal.overflow-add-used
-overflow-add-used c =
+pub overflow_add-used : goal.overflow_add-used
+overflow_add-used c =
     let t = c.args.tag in
     let r = c.in-Some-rule.rule in
     let rs = to_come c.loop-rule.rule-iterator in
     let more = to_come c.next.new.self in
-    let text = lines (map (under t) (to_come c.into-iter-rule-iterator.result)) in
-    let all = ap to_come c.into-iter-rule-iterator.ensures.into-iter-gives ∙ c.table-for-rule-items.ensures.rules ∙ ap (table_of c.args.width.bits) (sym c.in-Some.is) in
+    let text = lines (map (under t) (to_come c.into_iter-rule-iterator.result)) in
+    let all = ap to_come c.into_iter-rule-iterator.ensures.into_iter-gives ∙ c.table_for-rule-items.ensures.rules ∙ ap (table_of c.args.width.bits) (sym c.in-Some.is) in
     omega (
       arith,
       turn_room text c.args.out.now (lines (map (under t) rs)) c.loop-rule.out (line (under t r)) (lines (map (under t) more)) c.loop-rule.used c.loop-rule.invariant (rule_more t rs more r c.in-Some-rule.ensures.steps),
@@ -42,16 +42,16 @@ loop-rule-preserved c =
     let r = c.in-Some-rule.rule in
     let rs = to_come c.loop-rule.rule-iterator in
     let more = to_come c.next.new.self in
-    turn (lines (map (under t) (to_come c.into-iter-rule-iterator.result))) c.args.out.now (lines (map (under t) rs)) c.loop-rule.out (line (under t r)) (lines (map (under t) more)) c.loop-rule.used
-    c.loop-rule.invariant (rule_more t rs more r c.in-Some-rule.ensures.steps) c.write-line-used.new.out c.write-line-used.result c.write-line-used.ensures.value c.write-line-used.ensures.bytes
+    turn (lines (map (under t) (to_come c.into_iter-rule-iterator.result))) c.args.out.now (lines (map (under t) rs)) c.loop-rule.out (line (under t r)) (lines (map (under t) more)) c.loop-rule.used
+    c.loop-rule.invariant (rule_more t rs more r c.in-Some-rule.ensures.steps) c.write_line-used.new.out c.write_line-used.result c.write_line-used.ensures.value c.write_line-used.ensures.bytes
 
 pub returns : goal.returns
 returns c =
     let t = c.args.tag in
     let o = c.args.out.now in
     let rs = to_come c.loop-rule.rule-iterator in
-    let whole = ap to_come c.into-iter-rule-iterator.ensures.into-iter-gives ∙ c.table-for-rule-items.ensures.rules ∙ ap (table_of c.args.width.bits) (sym c.in-Some.is) in
-    let text = lines (map (under t) (to_come c.into-iter-rule-iterator.result)) in
+    let whole = ap to_come c.into_iter-rule-iterator.ensures.into_iter-gives ∙ c.table_for-rule-items.ensures.rules ∙ ap (table_of c.args.width.bits) (sym c.in-Some.is) in
+    let text = lines (map (under t) (to_come c.into_iter-rule-iterator.result)) in
     let rest = ap (λ (xs : List Rule). lines (map (under t) xs)) c.in-None.ensures.steps.0 in
     let all = filled_as text o (lines (map (under t) rs)) [] c.loop-rule.out c.loop-rule.used rest c.loop-rule.invariant in
     record {

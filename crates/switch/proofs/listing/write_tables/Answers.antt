@@ -12,8 +12,8 @@ loop-tag-init c =
     let o = c.args.out.now in
     filled_as (lines (standing W ds)) o (lines (standing W ds)) (lines (from_tag W ds 0)) o 0 (sym (lines_all W ds)) (filled_none (lines (standing W ds)) o)
 
-pub write-table-used-requires : goal.write-table-used-requires
-write-table-used-requires c =
+pub write_table-used-requires : goal.write_table-used-requires
+write_table-used-requires c =
     let W = c.args.width.bits in
     let ds = c.args.weights.now in
     let i = c.loop-tag.tag in
@@ -27,8 +27,8 @@ write-table-used-requires c =
           );
     }
 
-pub overflow-add-used : goal.overflow-add-used
-overflow-add-used c =
+pub overflow_add-used : goal.overflow_add-used
+overflow_add-used c =
     let W = c.args.width.bits in
     let ds = c.args.weights.now in
     let i = c.loop-tag.tag in
@@ -43,7 +43,7 @@ loop-tag-preserved c =
     let ds = c.args.weights.now in
     let i = c.loop-tag.tag in
     turn (lines (standing W ds)) c.args.out.now (lines (from_tag W ds i)) c.loop-tag.out (lines (of_tag W ds i)) (lines (from_tag W ds (i + 1))) c.loop-tag.used
-    c.loop-tag.invariant (lines_more W ds i (omega arith)) c.write-table-used.new.out c.write-table-used.result c.write-table-used.ensures.value c.write-table-used.ensures.bytes
+    c.loop-tag.invariant (lines_more W ds i (omega arith)) c.write_table-used.new.out c.write_table-used.result c.write_table-used.ensures.value c.write_table-used.ensures.bytes
 
 pub returns : goal.returns
 returns c =

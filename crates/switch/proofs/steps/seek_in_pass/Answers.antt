@@ -11,11 +11,11 @@ pub loop-tag-init : goal.loop-tag-init
 loop-tag-init c =
     ap (λ (ws : List Write). seek ws c.args.n) (all_tags c.args.pass c.args.width.bits c.args.walked.now c.args.other.now)
 
-pub seek-in-table-requires : goal.seek-in-table-requires
-seek-in-table-requires c = record {
+pub seek_in_table-requires : goal.seek_in_table-requires
+seek_in_table-requires c = record {
   tag = omega arith;
-  walked-fit = fit_at c.args.width.bits c.args.walked.now c.loop-tag.tag c.requires.walked-fit;
-  other-fit = fit_at c.args.width.bits c.args.other.now c.loop-tag.tag c.requires.other-fit;
+  walked_fit = fit_at c.args.width.bits c.args.walked.now c.loop-tag.tag c.requires.walked_fit;
+  other_fit = fit_at c.args.width.bits c.args.other.now c.loop-tag.tag c.requires.other_fit;
 }
 
 pub returns-in-Found : goal.returns-in-Found

@@ -19,6 +19,6 @@ returns-in-Left c =
     let W = c.args.width.bits in
     let standing = c.args.standing.now in
     let coming = c.args.coming.now in
-    ◌∙◌ {b = seek (pass_writes Puts W coming standing) c.in-Left.left} c.seek-in-pass-in-Left.ensures
+    ◌∙◌ {b = seek (pass_writes Puts W coming standing) c.in-Left.left} c.seek_in_pass-in-Left.ensures
     (sought_behind (steps W standing coming) (pass_writes Removals W standing coming) (pass_writes Puts W coming standing) c.args.n c.in-Left.left
     (two_passes W standing coming) c.in-Left.ensures)

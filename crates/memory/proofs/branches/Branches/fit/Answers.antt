@@ -4,8 +4,8 @@ use Rattle.memory.proofs.TrieLaws.{trie_none, empty_is}
 use Rattle.memory.specs.Tries.{in_trie}
 use Rattle.memory.proofs.branches.Branches.fit.Goals as goal
 
-pub invariant-of-self : goal.invariant-of-self
-invariant-of-self c =
+pub invariant_of-self : goal.invariant_of-self
+invariant_of-self c =
     let bare = empty_is c.release.new.self c.release.ensures.empty in (
       bare.neat_is 32,
       (

@@ -5,5 +5,5 @@ use Rattle.memory.specs.Tries.{in_trie}
 use Rattle.memory.specs.declared.trie.Trie.TheVariants.{Empty}
 use Rattle.memory.proofs.branches.Branches.new.Goals as goal
 
-pub invariant-of-result : goal.invariant-of-result
-invariant-of-result c = (refl, (omega (arith, c.in-ok-spare.ensures), (refl, (∣ counted_none (in_trie Empty) (trie_none Empty refl) ∣₁, (omega arith, (omega arith, tt))))))
+pub invariant_of-result : goal.invariant_of-result
+invariant_of-result c = (refl, (omega (arith, c.in_ok-spare.ensures), (refl, (∣ counted_none (in_trie Empty) (trie_none Empty refl) ∣₁, (omega arith, (omega arith, tt))))))

@@ -10,22 +10,22 @@ pub insert-requires : goal.insert-requires
 insert-requires c =
     let me = c.args.self.now in
     let p = c.args.rule.prefix in
-    let f = sym c.if-not-is-well-formed.ensures in
+    let f = sym c.if-not-is_well_formed.ensures in
     record { path = formed_parts p.value p.length f; low = omega arith; some = nodes_left me.root me.spare me.count p.value p.length me.tidy me.stocked me.ruled me.few f }
 
 pub insert-requires-in-None : goal.insert-requires-in-None
 insert-requires-in-None c =
     let me = c.args.self.now in
     let p = c.args.rule.prefix in
-    let f = sym c.if-not-is-well-formed.ensures in
+    let f = sym c.if-not-is_well_formed.ensures in
     record { path = formed_parts p.value p.length f; low = omega arith; some = nodes_left me.root me.spare me.count p.value p.length me.tidy me.stocked me.ruled me.few f }
 
-pub invariant-of-self : goal.invariant-of-self
-invariant-of-self c =
+pub invariant_of-self : goal.invariant_of-self
+invariant_of-self c =
     let me = c.args.self.now in
     let p = c.args.rule.prefix in
     let s = c.args.rule.server in
-    let f = sym c.if-not-is-well-formed.ensures in
+    let f = sym c.if-not-is_well_formed.ensures in
     let done = c.insert.ensures in (
       done.neat_kept me.tidy,
       (
@@ -40,12 +40,12 @@ invariant-of-self c =
       ),
     )
 
-pub invariant-of-self-in-None : goal.invariant-of-self-in-None
-invariant-of-self-in-None c =
+pub invariant_of-self-in-None : goal.invariant_of-self-in-None
+invariant_of-self-in-None c =
     let me = c.args.self.now in
     let p = c.args.rule.prefix in
     let s = c.args.rule.server in
-    let f = sym c.if-not-is-well-formed.ensures in
+    let f = sym c.if-not-is_well_formed.ensures in
     let done = c.insert-in-None.ensures in (
       done.neat_kept me.tidy,
       (
@@ -64,7 +64,7 @@ pub returns-in-Some : goal.returns-in-Some
 returns-in-Some c =
     let me = c.args.self.now in
     let p = c.args.rule.prefix in
-    let f = sym c.if-not-is-well-formed.ensures in
+    let f = sym c.if-not-is_well_formed.ensures in
     record {
       rules = put_old me.capacity c.args.rule tt f c.in-Some.field-0 (trie_at me.root p (Some c.in-Some.field-0) f c.in-Some.ensures)
           (trie_written me.root c.insert.new.self p (Some c.args.rule.server) f c.insert.ensures.held) refl;
@@ -74,7 +74,7 @@ returns-in-Some c =
 pub returns-then-self : goal.returns-then-self
 returns-then-self c =
     let me = c.args.self.now in
-    let f = sym c.if-not-is-well-formed.ensures in
+    let f = sym c.if-not-is_well_formed.ensures in
     record {
       rules = put_full me.capacity c.args.rule f (trie_at me.root c.args.rule.prefix None f c.in-None.ensures) (omega (arith, c.if-self.true)) (λ v l. refl) refl;
       limit = refl;
@@ -84,7 +84,7 @@ pub returns-else-self : goal.returns-else-self
 returns-else-self c =
     let me = c.args.self.now in
     let p = c.args.rule.prefix in
-    let f = sym c.if-not-is-well-formed.ensures in
+    let f = sym c.if-not-is_well_formed.ensures in
     record {
       rules = put_new me.capacity c.args.rule tt f (trie_at me.root p None f c.in-None.ensures) (omega (arith, c.if-self.false))
           (trie_written me.root c.insert-in-None.new.self p (Some c.args.rule.server) f c.insert-in-None.ensures.held) refl;

@@ -4,11 +4,11 @@ use Rattle.memory.proofs.Counting.{counted_less}
 use Rattle.memory.proofs.TrieLaws.{trie_written, trie_at}
 use Rattle.memory.proofs.branches.BranchesRuleMemory.remove.Goals as goal
 
-pub invariant-of-self : goal.invariant-of-self
-invariant-of-self c =
+pub invariant_of-self : goal.invariant_of-self
+invariant_of-self c =
     let me = c.args.self.now in
     let p = c.args.prefix in
-    let f = sym c.if-not-is-well-formed.ensures in
+    let f = sym c.if-not-is_well_formed.ensures in
     let done = c.erase.ensures in
     let some = ap {B = ℕ} (λ o. cond (is_some o) 1 0) c.in-Some.ensures in
     let one : 1 ≤ c.args.self.now.count = omega (arith, done.rules_are, c.args.self.now.ruled, some) in (

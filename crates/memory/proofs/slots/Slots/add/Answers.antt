@@ -6,21 +6,21 @@ use Rattle.memory.specs.RowLaws.{rows_inserted, apart_inserted, falling_inserted
 use Rattle.memory.proofs.slots.Slots.add.Goals as goal
 
 pub insert-requires : goal.insert-requires
-insert-requires c = omega (arith, place_le (vec_items c.args.self.now.rows) c.args.row.rule.prefix.length, c.place-of-i.ensures, c.args.self.now.rows.ok.0)
+insert-requires c = omega (arith, place_le (vec_items c.args.self.now.rows) c.args.row.rule.prefix.length, c.place_of-i.ensures, c.args.self.now.rows.ok.0)
 
 now_rows : (c : goal.After-insert) → vec_items c.insert.new.self ≡ insert (vec_items c.args.self.now.rows) (place_of (vec_items c.args.self.now.rows) c.args.row.rule.prefix.length) c.args.row
 now_rows c =
     let rs = vec_items c.args.self.now.rows in
     let ok = c.insert.ensures.succeeds (omega (arith, c.requires.room, c.args.self.now.reserved, c.args.self.now.fitted)) in
-    c.insert.ensures.items ∙ ap (λ b. cond b (insert rs c.place-of-i.result c.args.row) rs) ok ∙ ap (λ i. insert rs i c.args.row) c.place-of-i.ensures
+    c.insert.ensures.items ∙ ap (λ b. cond b (insert rs c.place_of-i.result c.args.row) rs) ok ∙ ap (λ i. insert rs i c.args.row) c.place_of-i.ensures
 
 now_len : (c : goal.After-insert) → vec_len c.insert.new.self ≡ vec_len c.args.self.now.rows + 1
 now_len c =
     let ok = c.insert.ensures.succeeds (omega (arith, c.requires.room, c.args.self.now.reserved, c.args.self.now.fitted)) in
     c.insert.ensures.len ∙ ap (λ b. cond b (vec_len c.args.self.now.rows + 1) (vec_len c.args.self.now.rows)) ok
 
-pub invariant-of-self : goal.invariant-of-self
-invariant-of-self c =
+pub invariant_of-self : goal.invariant_of-self
+invariant_of-self c =
     let rs = vec_items c.args.self.now.rows in
     let e = now_rows c in (
       ap (λ xs. falling 32 (row_prefixes xs)) e ∙ falling_inserted c.args.row 32 rs c.args.self.now.ordered (short_enough c.args.row),
@@ -35,7 +35,7 @@ returns c =
     let rs = vec_items c.args.self.now.rows in
     let ok = c.insert.ensures.succeeds (omega (arith, c.requires.room, c.args.self.now.reserved, c.args.self.now.fitted)) in
     record {
-      holds = λ w k. ap (λ xs. in_rows xs w k) (c.insert.ensures.items ∙ ap (λ b. cond b (insert rs c.place-of-i.result c.args.row) rs) ok ∙ ap (λ i. insert rs i c.args.row) c.place-of-i.ensures) ∙ rows_inserted c.args.row rs w k;
+      holds = λ w k. ap (λ xs. in_rows xs w k) (c.insert.ensures.items ∙ ap (λ b. cond b (insert rs c.place_of-i.result c.args.row) rs) ok ∙ ap (λ i. insert rs i c.args.row) c.place_of-i.ensures) ∙ rows_inserted c.args.row rs w k;
       len = c.insert.ensures.len ∙ ap (λ b. cond b (vec_len c.args.self.now.rows + 1) (vec_len c.args.self.now.rows)) ok;
       capacity = refl;
     }

@@ -4,8 +4,8 @@ use Rattle.memory.specs.Rows.{row_prefixes, falling, in_rows, row_of}
 use Rattle.memory.specs.RowLaws.{rows_set, prefixes_set}
 use Rattle.memory.proofs.slots.Slots.replace.Goals as goal
 
-pub invariant-of-self : goal.invariant-of-self
-invariant-of-self c =
+pub invariant_of-self : goal.invariant_of-self
+invariant_of-self c =
     let rs = vec_items c.args.self.now.rows in
     let x = c.args.row in
     let low : row_of (vec_items c.args.self.now.rows) c.args.row.rule.prefix.value c.args.row.rule.prefix.length < length (vec_items c.args.self.now.rows) = omega (arith, c.requires.row, c.requires.within, c.args.self.now.rows.ok.0) in

@@ -5,8 +5,8 @@ use Rattle.memory.specs.Rows.{row_prefixes, falling, in_rows}
 use Rattle.memory.specs.RowLaws.{rows_removed, apart_removed, falling_removed}
 use Rattle.memory.proofs.slots.Slots.strike.Goals as goal
 
-pub invariant-of-self : goal.invariant-of-self
-invariant-of-self c =
+pub invariant_of-self : goal.invariant_of-self
+invariant_of-self c =
     let rs = vec_items c.args.self.now.rows in (
       ap (λ xs. falling 32 (row_prefixes xs)) c.remove.ensures.items ∙ falling_removed 32 rs c.args.i c.args.self.now.ordered,
       (

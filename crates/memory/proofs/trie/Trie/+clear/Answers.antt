@@ -12,10 +12,10 @@ clear-requires t c =
 
 pub returns-then-half-value : goal.returns-then-half-value
 returns-then-half-value t c =
-    erased_one c.args.height c.args.length c.args.value c.in-Node.is c.requires.path (omega arith) c.top-half.ensures c.if-half-value.true c.deref-mut.ensures.value
-    (tidy (c.args.height - 1) (c.args.length - 1) (c.args.value - c.top-half.result) c.clear.ensures c.deref-mut-then-half-value.ensures.value c.prune.ensures)
+    erased_one c.args.height c.args.length c.args.value c.in-Node.is c.requires.path (omega arith) c.top-half.ensures c.if-half-value.true c.deref_mut.ensures.value
+    (tidy (c.args.height - 1) (c.args.length - 1) (c.args.value - c.top-half.result) c.clear.ensures c.deref_mut-then-half-value.ensures.value c.prune.ensures)
 
 pub returns-else-half-value : goal.returns-else-half-value
 returns-else-half-value t c =
-    erased_zero c.args.height c.args.length c.args.value c.in-Node.is c.requires.path (omega arith) c.top-half.ensures c.if-half-value.false c.deref-mut-else-half-value.ensures.value
-    (tidy (c.args.height - 1) (c.args.length - 1) c.args.value c.clear-else-half-value.ensures c.deref-mut-else-half-value-2.ensures.value c.prune-else-half-value.ensures)
+    erased_zero c.args.height c.args.length c.args.value c.in-Node.is c.requires.path (omega arith) c.top-half.ensures c.if-half-value.false c.deref_mut-else-half-value.ensures.value
+    (tidy (c.args.height - 1) (c.args.length - 1) c.args.value c.clear-else-half-value.ensures c.deref_mut-else-half-value-2.ensures.value c.prune-else-half-value.ensures)

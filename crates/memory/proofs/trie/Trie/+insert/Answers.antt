@@ -12,8 +12,8 @@ insert-requires t c =
 
 pub returns-then-half-value : goal.returns-then-half-value
 returns-then-half-value t c =
-    inserted_one c.args.height c.args.length c.args.value c.args.server c.open.ensures c.in-Node.is c.requires.path (omega arith) c.top-half.ensures c.if-half-value.true c.deref-mut.ensures.value c.insert.ensures
+    inserted_one c.args.height c.args.length c.args.value c.args.server c.open.ensures c.in-Node.is c.requires.path (omega arith) c.top-half.ensures c.if-half-value.true c.deref_mut.ensures.value c.insert.ensures
 
 pub returns-else-half-value : goal.returns-else-half-value
 returns-else-half-value t c =
-    inserted_zero c.args.height c.args.length c.args.value c.args.server c.open.ensures c.in-Node.is c.requires.path (omega arith) c.top-half.ensures c.if-half-value.false c.deref-mut-else-half-value.ensures.value c.insert-else-half-value.ensures
+    inserted_zero c.args.height c.args.length c.args.value c.args.server c.open.ensures c.in-Node.is c.requires.path (omega arith) c.top-half.ensures c.if-half-value.false c.deref_mut-else-half-value.ensures.value c.insert-else-half-value.ensures

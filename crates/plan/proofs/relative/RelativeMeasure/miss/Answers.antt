@@ -2,9 +2,9 @@ use Rattle.std.proofs.Common.{rules}
 use Rattle.plan.specs.Relative.{relative}
 use Rattle.plan.proofs.relative.RelativeMeasure.miss.Goals as goal
 
-pub returns-in-default : goal.returns-in-default
+pub returns-in_default : goal.returns-in_default
 unfolding relative
-returns-in-default c = search rules
+returns-in_default c = search rules
 
 pub returns-then-weight-target : goal.returns-then-weight-target
 unfolding relative

@@ -7,10 +7,10 @@ use Rattle.rules.specs.Refusals.{◌when◌, first}
 use Rattle.rules.proofs.Refusing.{refused_by, passed_by}
 use Rattle.rules.proofs.width.Width.for_weight.Goals as goal
 
-pub returns-in-err-width : goal.returns-in-err-width
-returns-in-err-width c =
-    let p = err_from_is_err_and c.from-residual.result c.from-residual.ensures.1 in
-    let e = refused_by _ (width_grounds c.args.bits) ((BeyondWidth when ltb (2 ^ c.args.bits) c.args.weight) ∷ []) c.in-err-width.ensures.refused in
+pub returns-in_err-width : goal.returns-in_err-width
+returns-in_err-width c =
+    let p = err_from_is_err_and c.from_residual.result c.from_residual.ensures.1 in
+    let e = refused_by _ (width_grounds c.args.bits) ((BeyondWidth when ltb (2 ^ c.args.bits) c.args.weight) ∷ []) c.in_err-width.ensures.refused in
     rw (p.1, p.2) (record { refused = e; kept = tt })
 
 pub returns-then-weight-addresses : goal.returns-then-weight-addresses
