@@ -1,5 +1,5 @@
 -- Counting a block of addresses by its halves.
-use Rattle.std.proofs.Common.{◌≡◌, ℕ, zero, suc, ◌+◌, ◌-◌, ◌*◌, ◌^◌, ◌<◌, ◌≤◌, Bool, true, false, cond, ◌&&◌, List, [], ◌∷◌, length, get_or, drop, is_some, Some, None, Option, sym, refl, ap, ◌∙◌, pow-suc, arith, pow_mono}
+use Rattle.std.proofs.Common.{◌≡◌, ℕ, zero, suc, ◌+◌, ◌-◌, ◌*◌, ◌^◌, ◌<◌, ◌≤◌, true, false, cond, List, [], ◌∷◌, length, get_or, drop, is_some, Some, None, Option, sym, refl, ap, ◌∙◌, pow-suc, arith, pow_mono}
 use native.Mathlib.Decide.{dec_le}
 use Rattle.std.proofs.lemmas.List.{at_drop_more, at_drop_all}
 use Rattle.std.proofs.lemmas.Bool.{and_parts}
@@ -10,7 +10,7 @@ use Rattle.rules.specs.declared.server.Server.{Server}
 use Rattle.rules.specs.declared.server.Server.TheVariants.{One, Two}
 use Rattle.rules.specs.Blocks.{in_block, Shared, Totals}
 use Rattle.rules.specs.Prefixes.{fits, all_fit, matches, first_match, same, tally, answered, Covers}
-use Rattle.rules.specs.Shortest.{L, Splits}
+use Rattle.rules.specs.Shortest.{L}
 use Rattle.rules.proofs.Bound.{least_rules}
 use Rattle.rules.proofs.Tallies.{tally_ext, tally_split, within_in}
 

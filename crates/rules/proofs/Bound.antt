@@ -1,13 +1,13 @@
 -- No list of rules that leaves no address out gives server 1 a weight with fewer rules than L says: each rule changes the digit count of what a
 -- server gets by one at most.
-use Rattle.std.proofs.Common.{◌≡◌, ℕ, zero, suc, ◌+◌, ◌-◌, ◌*◌, ◌^◌, ◌<◌, ◌≤◌, min, Bool, true, false, cond, ◌⊎◌, List, [], ◌∷◌, length, is_some, Some, None, Option, sym, refl, ap, ◌∙◌, subst, inl, inr, arith, pow_pos}
+use Rattle.std.proofs.Common.{◌≡◌, ℕ, zero, suc, ◌+◌, ◌-◌, ◌^◌, ◌≤◌, min, Bool, true, false, cond, ◌⊎◌, List, [], ◌∷◌, length, is_some, Some, None, sym, refl, ap, ◌∙◌, subst, inl, inr, arith, pow_pos}
 use Rattle.std.specs.List.{AllByRecursion as All}
 use Rattle.rules.specs.declared.rule.Rule.{Rule}
 use Rattle.rules.specs.declared.server.Server.{Server}
 use Rattle.rules.specs.declared.server.Server.TheVariants.{One, Two}
 use Rattle.rules.specs.Digits.{D}
-use Rattle.rules.specs.Prefixes.{matches, first_match, same, tally, weight, Covers}
-use Rattle.rules.specs.Shortest.{L, Splits, LeastRules}
+use Rattle.rules.specs.Prefixes.{matches, first_match, same, weight, Covers}
+use Rattle.rules.specs.Shortest.{L, LeastRules}
 use Rattle.rules.proofs.Cost.{Cost, cost_zero, cost_more, cost_add, cost_flip, cost_D}
 use Rattle.rules.proofs.Halves.{is, other, same_other, at, count, count_both, View, whole, child, away, view, keep, side, part, sides, part_fits, halves}
 use Rattle.rules.proofs.Shapes.{Shape, shapes}

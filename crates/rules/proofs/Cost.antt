@@ -1,5 +1,5 @@
 -- What adding w can do to D: n at most, either way.
-use Rattle.std.proofs.Common.{◌≡◌, ℕ, zero, suc, ◌+◌, ◌-◌, ◌*◌, ◌^◌, ◌<◌, ◌≤◌, ap, inl, inr, arith}
+use Rattle.std.proofs.Common.{◌≡◌, ℕ, suc, ◌+◌, ◌*◌, ◌^◌, ◌≤◌, ap, inl, inr, arith}
 use Rattle.rules.specs.Digits.{D}
 use Rattle.rules.proofs.DigitCount.{D_none, D_even, D_odd, D_up, D_down, Parity, parity}
 

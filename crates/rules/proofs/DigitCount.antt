@@ -1,5 +1,5 @@
 -- The laws of the digit count D. Callers use these and never the text of D.
-use Rattle.std.proofs.Common.{◌≡◌, ℕ, zero, suc, ◌+◌, ◌-◌, ◌*◌, ◌/◌, ◌%◌, ◌^◌, ◌<◌, ◌≤◌, min, ◌⊎◌, List, [], ◌∷◌, sym, refl, ap, ◌∙◌, inl, inr, not-suc-le-zero, pow-suc, arith}
+use Rattle.std.proofs.Common.{◌≡◌, ℕ, zero, suc, ◌+◌, ◌*◌, ◌/◌, ◌%◌, ◌^◌, ◌<◌, ◌≤◌, min, ◌⊎◌, List, [], ◌∷◌, sym, refl, ap, ◌∙◌, inl, inr, not-suc-le-zero, pow-suc, arith}
 use Rattle.rules.specs.Digits.{Digit, minus, nought, plus, nonzero, lowest, rest, write, digits, D}
 
 -- ---- one digit at a time

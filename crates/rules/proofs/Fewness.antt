@@ -1,5 +1,5 @@
 -- How many rules a weight can need: one at the ends, and never many.
-use Rattle.std.proofs.Common.{◌≡◌, ℕ, zero, suc, ◌+◌, ◌-◌, ◌*◌, ◌/◌, ◌%◌, ◌^◌, ◌<◌, ◌≤◌, min, ◌⊎◌, refl, ap, inl, inr, pow-suc, arith}
+use Rattle.std.proofs.Common.{◌≡◌, ℕ, zero, suc, ◌+◌, ◌-◌, ◌*◌, ◌/◌, ◌%◌, ◌^◌, ◌≤◌, min, ◌⊎◌, refl, ap, inl, inr, pow-suc, arith}
 use Rattle.rules.specs.Digits.{D}
 use Rattle.rules.specs.Shortest.{L}
 use Rattle.rules.proofs.DigitCount.{D_none, D_unit, D_even, D_one, D_three}

@@ -1,5 +1,5 @@
 -- Rules laid one after the other, each moving the end of server 1's addresses by a power of two.
-use Rattle.std.proofs.Common.{◌≡◌, ℕ, zero, suc, ◌+◌, ◌-◌, ◌*◌, ◌/◌, ◌%◌, ◌^◌, ◌<◌, ◌≤◌, Bool, cond, ltb, List, [], ◌∷◌, ◌++◌, reverse, length, sym, refl, ap, ◌∙◌, subst, append-nil, mul-le-mul_right, add-mul, pow-suc, le_of_mul-le-mul_right, arith, length-append, pow_pos, pow-add}
+use Rattle.std.proofs.Common.{◌≡◌, ℕ, zero, suc, ◌+◌, ◌-◌, ◌*◌, ◌%◌, ◌^◌, ◌<◌, ◌≤◌, Bool, cond, ltb, List, [], ◌∷◌, ◌++◌, reverse, length, sym, refl, ap, ◌∙◌, subst, append-nil, mul-le-mul_right, add-mul, pow-suc, le_of_mul-le-mul_right, arith, length-append, pow_pos, pow-add}
 use mathlib.Core.List.{reverse-append}
 use native.Mathlib.Decide.{dec_le}
 use lib.Pow.{pow-lt}

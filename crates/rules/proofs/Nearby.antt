@@ -1,5 +1,5 @@
 -- The nearest numbers with so many digits: cut off below, fill up above, at the first place that leaves few enough.
-use Rattle.std.proofs.Common.{◌≡◌, ℕ, zero, suc, ◌+◌, ◌-◌, ◌*◌, ◌/◌, ◌^◌, ◌<◌, ◌≤◌, min, ◌⊎◌, refl, ap, ◌∙◌, inl, inr, lt_of_mul-lt-mul_right, pow-suc, arith, pow_pos}
+use Rattle.std.proofs.Common.{◌≡◌, ℕ, zero, suc, ◌+◌, ◌-◌, ◌*◌, ◌/◌, ◌^◌, ◌<◌, ◌≤◌, min, refl, ap, inl, inr, lt_of_mul-lt-mul_right, pow-suc, arith, pow_pos}
 use native.Mathlib.Decide.{dec_le}
 use Rattle.rules.specs.Digits.{D}
 use Rattle.rules.proofs.DigitCount.{D_even, D_odd, D_scale, double_power, Parity, parity}

@@ -1,5 +1,5 @@
 -- The laws of a table.
-use Rattle.std.proofs.Common.{◌≡◌, ℕ, zero, suc, ◌+◌, ◌-◌, ◌*◌, ◌/◌, ◌%◌, ◌^◌, ◌<◌, ◌≤◌, min, Bool, true, false, cond, ltb, leb, ◌⊎◌, List, [], ◌∷◌, ◌++◌, reverse, length, is_some, Some, None, Option, sym, refl, ap, ◌∙◌, subst, inl, inr, pow-suc, arith, pow_pos}
+use Rattle.std.proofs.Common.{◌≡◌, ℕ, zero, suc, ◌+◌, ◌-◌, ◌*◌, ◌^◌, ◌<◌, ◌≤◌, min, Bool, true, false, cond, ltb, leb, List, [], ◌∷◌, ◌++◌, reverse, length, is_some, Some, None, Option, sym, refl, ap, ◌∙◌, subst, arith, pow_pos}
 use mathlib.Core.List.{reverse-cons}
 use native.Mathlib.Decide.{dec_le}
 use Rattle.std.specs.List.{AllByRecursion as All}
@@ -9,10 +9,10 @@ use Rattle.std.proofs.ByRecursion.{All-append}
 use Rattle.rules.specs.declared.rule.Rule.{Rule}
 use Rattle.rules.specs.declared.server.Server.{Server}
 use Rattle.rules.specs.declared.server.Server.TheVariants.{One, Two}
-use Rattle.rules.specs.Digits.{Digit, minus, nought, plus, lowest, rest, write, digits, D}
-use Rattle.rules.specs.Prefixes.{within, matches, first_match, same, tally}
-use Rattle.rules.specs.Shortest.{L, Splits}
-use Rattle.rules.specs.Tables.{Term, more, less, term, terms, block, all_to, from_below, from_above, table, Rising, side, ShortestTable}
+use Rattle.rules.specs.Digits.{Digit, minus, nought, plus, digits, D}
+use Rattle.rules.specs.Prefixes.{matches, first_match, same, tally}
+use Rattle.rules.specs.Shortest.{L}
+use Rattle.rules.specs.Tables.{Term, more, less, term, terms, all_to, from_below, from_above, table, Rising, side, ShortestTable}
 use Rattle.rules.proofs.Bound.{least_rules}
 use Rattle.rules.proofs.Halves.{at}
 use Rattle.rules.proofs.Laying.{Laid, end, flip, turn, above_flip, up_all, down_all}

@@ -1,6 +1,6 @@
 -- The highest digit stands below the width, or the other server's part has fewer digits.
-use Rattle.std.proofs.Common.{◌≡◌, ℕ, zero, suc, ◌+◌, ◌-◌, ◌*◌, ◌/◌, ◌%◌, ◌^◌, ◌<◌, ◌≤◌, ◌⊎◌, List, [], ◌∷◌, length, drop, sym, refl, ap, ◌∙◌, inl, inr, pow-suc, arith, length-drop}
-use Rattle.rules.specs.Digits.{Digit, rest, after, digits, D}
+use Rattle.std.proofs.Common.{◌≡◌, ℕ, zero, suc, ◌+◌, ◌-◌, ◌*◌, ◌%◌, ◌^◌, ◌<◌, ◌≤◌, ◌⊎◌, [], length, drop, sym, refl, ap, ◌∙◌, inl, inr, pow-suc, arith, length-drop}
+use Rattle.rules.specs.Digits.{rest, after, digits, D}
 use Rattle.rules.proofs.DigitCount.{D_none, D_unit, D_step, D_even, D_up, D_down, digits_zero, digits_step}
 use Rattle.rules.proofs.Rounding.{after_zero}
 

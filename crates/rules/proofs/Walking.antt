@@ -1,5 +1,5 @@
 -- A table's rules one after the other, a digit at a time from the top.
-use Rattle.std.proofs.Common.{◌≡◌, ℕ, zero, suc, ◌+◌, ◌-◌, ◌*◌, ◌/◌, ◌%◌, ◌^◌, ◌<◌, ◌≤◌, Bool, true, false, cond, ltb, leb, List, [], ◌∷◌, ◌++◌, take, sym, refl, ap, ◌∙◌, subst, ap₂, append_assoc, append-nil, arith, pow_pos}
+use Rattle.std.proofs.Common.{◌≡◌, ℕ, zero, suc, ◌+◌, ◌-◌, ◌*◌, ◌%◌, ◌^◌, ◌<◌, ◌≤◌, Bool, true, false, cond, ltb, List, [], ◌∷◌, ◌++◌, take, sym, refl, ap, ◌∙◌, subst, ap₂, append_assoc, append-nil, arith, pow_pos}
 use Rattle.std.proofs.lemmas.Bool.{lt-ltb, le-ltb, le-leb, lt-leb}
 use Rattle.std.proofs.lemmas.List.{take_all}
 use Rattle.rules.specs.declared.rule.Rule.{Rule}
@@ -7,7 +7,7 @@ use Rattle.rules.specs.declared.server.Server.{Server}
 use Rattle.rules.specs.declared.server.Server.TheVariants.{One, Two}
 use Rattle.rules.specs.declared.table.Table.{Table}
 use Rattle.rules.specs.Digits.{Digit, minus, nought, plus, digit, lowest, rest, after, digits, D}
-use Rattle.rules.specs.Tables.{Term, more, less, term, terms, block, all_to, from_below, from_above, table}
+use Rattle.rules.specs.Tables.{Term, term, terms, block, all_to, from_below, from_above, table}
 use Rattle.rules.specs.Walk.{end_at, worked, digits_left, left_at, to_come}
 use Rattle.rules.proofs.Laying.{raise, one_more}
 use Rattle.rules.proofs.Rounding.{after_rest, after_bound}

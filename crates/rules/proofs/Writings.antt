@@ -1,5 +1,5 @@
 -- Every number has one writing without neighbours, and its digits are counted by D.
-use Rattle.std.proofs.Common.{◌≡◌, ℕ, zero, suc, ◌+◌, ◌-◌, ◌*◌, ◌/◌, ◌%◌, ◌^◌, ◌<◌, ◌≤◌, ◌⊎◌, List, [], ◌∷◌, sym, refl, ap, ◌∙◌, inl, inr, arith}
+use Rattle.std.proofs.Common.{◌≡◌, ℕ, zero, suc, ◌+◌, ◌*◌, ◌/◌, ◌%◌, ◌<◌, ◌≤◌, ◌⊎◌, List, [], ◌∷◌, sym, refl, ap, ◌∙◌, inl, inr, arith}
 use Rattle.rules.specs.Digits.{Digit, minus, nought, plus, digit, up, down, nonzero, Writing, lowest, rest, after, write, digits, D}
 use Rattle.rules.proofs.DigitCount.{D_step, D_none, weigh, weigh_lowest, nonzero_cons}
 

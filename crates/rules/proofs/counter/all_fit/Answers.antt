@@ -1,8 +1,8 @@
-use Rattle.std.proofs.Common.{◌≡◌, ◌+◌, Bool, ◌&&◌, get_or, drop, sym, ap, ◌∙◌, arith}
+use Rattle.std.proofs.Common.{◌+◌, Bool, ◌&&◌, drop, sym, ap, ◌∙◌, arith}
 use Rattle.std.proofs.lemmas.List.{at_drop_more, at_drop_all}
 use Rattle.rules.specs.declared.rule.Rule.{Rule}
 use Rattle.rules.specs.declared.server.Server.TheVariants.{One}
-use Rattle.rules.specs.Prefixes.{fits, all_fit}
+use Rattle.rules.specs.Prefixes.{all_fit}
 use Rattle.rules.proofs.counter.all_fit.Goals as goal
 
 abbrev none : Rule

@@ -1,4 +1,4 @@
-use Rattle.std.proofs.Common.{ℕ, ◌+◌, ◌-◌, ◌^◌, ap, arith, pow_mono}
+use Rattle.std.proofs.Common.{ℕ, ◌-◌, ◌^◌, ap, arith, pow_mono}
 use Rattle.rules.proofs.Shapes.{shape}
 use Rattle.rules.proofs.counter.past_rule.Goals as goal
 

@@ -1,4 +1,4 @@
-use Rattle.std.proofs.Common.{◌≡◌, ℕ, ◌+◌, ◌-◌, ◌*◌, ◌/◌, sym, ap, subst, arith}
+use Rattle.std.proofs.Common.{ℕ, ◌+◌, ◌-◌, ◌*◌, ◌/◌, sym, ap, subst, arith}
 use Rattle.rules.specs.Nearby.{Heavier}
 use Rattle.rules.specs.Shortest.{L}
 use Rattle.rules.proofs.Sides.{heavier_at, heavier_none, heavier_all, mirror_ceil}

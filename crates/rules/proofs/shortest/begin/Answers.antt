@@ -1,4 +1,4 @@
-use Rattle.std.proofs.Common.{◌≡◌, ℕ, ◌-◌, ◌^◌, ap, ◌∙◌, arith}
+use Rattle.std.proofs.Common.{ℕ, ◌-◌, ap, ◌∙◌, arith}
 use Rattle.rules.specs.Digits.{D}
 use Rattle.rules.proofs.Walking.{table_below, table_above}
 use Rattle.rules.proofs.shortest.begin.Goals as goal

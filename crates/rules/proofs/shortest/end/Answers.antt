@@ -1,4 +1,4 @@
-use Rattle.std.proofs.Common.{◌^◌, arith, pow_mono}
+use Rattle.std.proofs.Common.{arith, pow_mono}
 use Rattle.rules.proofs.shortest.end.Goals as goal
 
 pub rounded-part-requires : goal.rounded-part-requires

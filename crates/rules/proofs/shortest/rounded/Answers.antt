@@ -1,4 +1,4 @@
-use Rattle.std.proofs.Common.{◌≡◌, ℕ, ◌+◌, ◌-◌, ◌*◌, ◌/◌, ◌^◌, ◌≤◌, sym, ap, ◌∙◌, subst, ap₂, arith, lit≤}
+use Rattle.std.proofs.Common.{◌≡◌, ℕ, ◌+◌, ◌-◌, ◌*◌, ◌/◌, ◌^◌, ◌≤◌, sym, subst, ap₂, arith}
 use Rattle.rules.specs.Digits.{after}
 use Rattle.rules.proofs.Rounding.{after_is, after_order, after_bound}
 use Rattle.rules.proofs.shortest.rounded.Goals as goal

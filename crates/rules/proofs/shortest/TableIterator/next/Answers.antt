@@ -1,6 +1,6 @@
-use Rattle.std.proofs.Common.{◌≡◌, ℕ, ◌+◌, ◌-◌, ◌∷◌, length, sym, refl, ap, ◌∙◌, arith, rules}
+use Rattle.std.proofs.Common.{◌≡◌, ◌+◌, ◌-◌, ◌∷◌, length, sym, refl, ap, ◌∙◌, arith, rules}
 use Rattle.rules.specs.Tables.{all_to}
-use Rattle.rules.specs.Walk.{left_at, to_come}
+use Rattle.rules.specs.Walk.{left_at}
 use Rattle.rules.proofs.Walking.{come_begun, come_fresh, walked}
 use Rattle.rules.proofs.shortest.TableIterator.next.Goals as goal
 

@@ -1,9 +1,9 @@
-use Rattle.std.proofs.Common.{◌≡◌, ℕ, ◌^◌, ◌<◌, ◌≤◌, ltb, [], ◌∷◌, sym, ap, ◌∙◌, arith}
+use Rattle.std.proofs.Common.{ℕ, ◌^◌, ◌<◌, ◌≤◌, ltb, [], ◌∷◌, ap, arith}
 use Rattle.std.proofs.lemmas.Result.{err_from_is_err_and}
 use Rattle.std.proofs.lemmas.Bool.Decides.{nat_tests}
 use Rattle.rules.specs.declared.refusal.Refusal.TheVariants.{BeyondWidth}
-use Rattle.rules.specs.Grounds.{width_grounds, weight_grounds}
-use Rattle.rules.specs.Refusals.{◌when◌, first}
+use Rattle.rules.specs.Grounds.{width_grounds}
+use Rattle.rules.specs.Refusals.{◌when◌}
 use Rattle.rules.proofs.Refusing.{refused_by, passed_by}
 use Rattle.rules.proofs.width.Width.for_weight.Goals as goal
 
