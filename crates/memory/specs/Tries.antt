@@ -1,6 +1,6 @@
 -- Binary tries over the bits of a key, the highest bit first: what they hold, and how many nodes they have. A height h is the number of bits
 -- that are still to come.
-use Rattle.std.specs.Prelude.{◌≡◌, ℕ, suc, ◌+◌, ◌-◌, ◌%◌, ◌^◌, ◌<◌, ◌≤◌, Bool, true, false, cond, not, ◌&&◌, ◌||◌, is_some, Some, None, Option, ◌==◌, nat_le, nat_lt}
+use Rattle.std.specs.Prelude.{◌≡◌, ℕ, suc, ◌+◌, ◌-◌, ◌%◌, ◌^◌, ◌<◌, ◌≤◌, Bool, true, false, cond, not, ◌&&◌, ◌||◌, is_some, Some, None, Option, ◌==◌, nat_le, nat_lt, refl}
 use Rattle.std.specs.Option.{option_or}
 use Rattle.rules.specs.declared.server.Server.{Server}
 use Rattle.memory.specs.Keys.{formed}
@@ -92,3 +92,11 @@ pub record Erased (t t' c c' : Trie) (h n v : ℕ) (left : Trie → ℕ → Bool
 -- What a trie over the 32 bits of keys holds.
 abbrev pub in_trie : Trie → Held
 in_trie t v l = cond (formed v l) (at_bits t 32 l v) None
+
+formed_if : (b : Bool) (o : Option Server) → is_some (cond b o None) ≡ true → b ≡ true
+formed_if true o e = refl
+formed_if false o e = e
+
+-- It holds only well-formed prefixes.
+pub trie_formed : (t : Trie) (v l : ℕ) → is_some (in_trie t v l) ≡ true → formed v l ≡ true
+trie_formed t v l e = formed_if (formed v l) (at_bits t 32 l v) e

@@ -3,8 +3,8 @@
 ghost use Rattle.std.specs.Prelude.{◌≡◌, ◌+◌, ◌<◌, ◌≤◌, true, false, IfOk};
 ghost use Rattle.memory.specs.Holding.{Counted};
 ghost use Rattle.memory.specs.Writes.{Fitted, Fresh};
-ghost use Rattle.memory.specs.Tries.{in_trie, nodes, rules, spares, neat};
-ghost use Rattle.std.proofs.Common.{rules, arith};
+ghost use Rattle.memory.specs.Tries.{in_trie, trie_formed, nodes, rules, spares, neat};
+ghost use Rattle.std.proofs.Common.{le_trans, lit≤};
 
 use crate::key::{KeyRule, Prefix};
 use crate::reader::Reader;
@@ -64,9 +64,9 @@ impl Reader for Branches {
 
     ghost size = { λ b. b.count };
 
-    ghost layout = { first_of (Prim.search rules, Prim.grind (arith, Self.row.coded.inj)) };
+    ghost layout = { λ m v l e. trie_formed m.root v l e };
 
-    ghost counted = { first_of (Prim.search rules, Prim.grind (arith, Self.row.coded.inj)) };
+    ghost counted = { λ m. m.counted };
 
     fn look(&self, key: u32) -> Option<Server> {
         self.root.look(key)
@@ -88,7 +88,7 @@ impl Reader for Branches {
 impl RuleMemory for Branches {
     ghost limit = { λ b. b.capacity };
 
-    ghost most = { first_of (Prim.search rules, Prim.grind (arith, Self.row.coded.inj)) };
+    ghost most = { λ m. le_trans m.fitted (lit≤ tt) };
 
     fn capacity(&self) -> u32 {
         self.capacity

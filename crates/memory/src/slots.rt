@@ -1,7 +1,7 @@
 // Slots: up to 1,024 rules in rows, longer prefixes ahead of shorter ones, and the first match answers. All rows are reserved when the slots are
 // made, so that no later call can fail for want of memory.
 ghost use Rattle.std.specs.Prelude.{◌≡◌, ℕ, ◌+◌, ◌<◌, ◌≤◌, true, IfOk, Some, None, vec_len, vec_capacity};
-ghost use Rattle.std.proofs.Common.{sym, rules, arith};
+ghost use Rattle.std.proofs.Common.{sym, le_trans, lit≤};
 ghost use Rattle.memory.specs.Keys.{formed};
 ghost use Rattle.memory.specs.Holding.{apart, at};
 ghost use Rattle.memory.specs.Writes.{written, Fitted, Fresh};
@@ -170,7 +170,7 @@ impl Reader for Slots {
 impl RuleMemory for Slots {
     ghost limit = { λ s. s.capacity };
 
-    ghost most = { first_of (Prim.search rules, Prim.grind (arith, Self.row.coded.inj)) };
+    ghost most = { λ m. le_trans m.fitted (lit≤ tt) };
 
     fn capacity(&self) -> u32 {
         self.capacity

@@ -6,10 +6,12 @@ use Rattle.memory.proofs.branches.Branches.fit.Goals as goal
 
 pub invariant_of-self : goal.invariant_of-self
 invariant_of-self c =
-    let bare = empty_is c.release.new.self c.release.ensures.empty in (
-      bare.neat_is 32,
-      (
-        omega (arith, bare.nodes_are, c.release.ensures.chain, c.args.self.now.stocked),
-        (bare.rules_are, (∣ counted_none (in_trie c.release.new.self) (trie_none c.release.new.self c.release.ensures.empty) ∣₁, (omega arith, (omega arith, tt)))),
-      ),
-    )
+    let bare = empty_is c.release.new.self c.release.ensures.empty in
+    record {
+      tidy = bare.neat_is 32;
+      stocked = omega (arith, bare.nodes_are, c.release.ensures.chain, c.args.self.now.stocked);
+      ruled = bare.rules_are;
+      counted = ∣ counted_none (in_trie c.release.new.self) (trie_none c.release.new.self c.release.ensures.empty) ∣₁;
+      few = omega arith;
+      fitted = omega arith;
+    }

@@ -6,4 +6,12 @@ use Rattle.memory.specs.declared.trie.Trie.TheVariants.{Empty}
 use Rattle.memory.proofs.branches.Branches.new.Goals as goal
 
 pub invariant_of-result : goal.invariant_of-result
-invariant_of-result c = (refl, (omega (arith, c.in_ok-spare.ensures), (refl, (∣ counted_none (in_trie Empty) (trie_none Empty refl) ∣₁, (omega arith, (omega arith, tt))))))
+invariant_of-result c =
+    record {
+      tidy = refl;
+      stocked = omega (arith, c.in_ok-spare.ensures);
+      ruled = refl;
+      counted = ∣ counted_none (in_trie Empty) (trie_none Empty refl) ∣₁;
+      few = omega arith;
+      fitted = omega arith;
+    }

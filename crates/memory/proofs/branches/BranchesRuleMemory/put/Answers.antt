@@ -26,19 +26,15 @@ invariant_of-self c =
     let p = c.args.rule.prefix in
     let s = c.args.rule.server in
     let f = sym c.if-not-is_well_formed.ensures in
-    let done = c.insert.ensures in (
-      done.neat_kept me.tidy,
-      (
-        done.nodes_kept ∙ me.stocked,
-        (
-          omega (arith, done.rules_are, me.ruled, ap {B = ℕ} (λ o. cond (is_some o) 0 1) c.in-Some.ensures),
-          (
-            ∥∥₁_map me.counted (λ all. counted_old p (Some s) all (trie_written me.root c.insert.new.self p (Some s) f done.held) s c.in-Some.field-0 refl (trie_at me.root p (Some c.in-Some.field-0) f c.in-Some.ensures)),
-            (me.few, (me.fitted, tt)),
-          ),
-        ),
-      ),
-    )
+    let done = c.insert.ensures in
+    record {
+      tidy = done.neat_kept me.tidy;
+      stocked = done.nodes_kept ∙ me.stocked;
+      ruled = omega (arith, done.rules_are, me.ruled, ap {B = ℕ} (λ o. cond (is_some o) 0 1) c.in-Some.ensures);
+      counted = ∥∥₁_map me.counted (λ all. counted_old p (Some s) all (trie_written me.root c.insert.new.self p (Some s) f done.held) s c.in-Some.field-0 refl (trie_at me.root p (Some c.in-Some.field-0) f c.in-Some.ensures));
+      few = me.few;
+      fitted = me.fitted;
+    }
 
 pub invariant_of-self-in-None : goal.invariant_of-self-in-None
 invariant_of-self-in-None c =
@@ -46,19 +42,15 @@ invariant_of-self-in-None c =
     let p = c.args.rule.prefix in
     let s = c.args.rule.server in
     let f = sym c.if-not-is_well_formed.ensures in
-    let done = c.insert-in-None.ensures in (
-      done.neat_kept me.tidy,
-      (
-        done.nodes_kept ∙ me.stocked,
-        (
-          omega (arith, done.rules_are, me.ruled, ap {B = ℕ} (λ o. cond (is_some o) 0 1) c.in-None.ensures),
-          (
-            ∥∥₁_map me.counted (λ all. counted_new p (Some s) all (trie_written me.root c.insert-in-None.new.self p (Some s) f done.held) s refl (trie_at me.root p None f c.in-None.ensures)),
-            (omega (arith, c.if-self.false, me.fitted), (me.fitted, tt)),
-          ),
-        ),
-      ),
-    )
+    let done = c.insert-in-None.ensures in
+    record {
+      tidy = done.neat_kept me.tidy;
+      stocked = done.nodes_kept ∙ me.stocked;
+      ruled = omega (arith, done.rules_are, me.ruled, ap {B = ℕ} (λ o. cond (is_some o) 0 1) c.in-None.ensures);
+      counted = ∥∥₁_map me.counted (λ all. counted_new p (Some s) all (trie_written me.root c.insert-in-None.new.self p (Some s) f done.held) s refl (trie_at me.root p None f c.in-None.ensures));
+      few = omega (arith, c.if-self.false, me.fitted);
+      fitted = me.fitted;
+    }
 
 pub returns-in-Some : goal.returns-in-Some
 returns-in-Some c =

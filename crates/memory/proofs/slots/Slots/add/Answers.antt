@@ -22,13 +22,14 @@ now_len c =
 pub invariant_of-self : goal.invariant_of-self
 invariant_of-self c =
     let rs = vec_items c.args.self.now.rows in
-    let e = now_rows c in (
-      ap (λ xs. falling 32 (row_prefixes xs)) e ∙ falling_inserted c.args.row 32 rs c.args.self.now.ordered (short_enough c.args.row),
-      (
-        ap (λ xs. apart (row_prefixes xs)) e ∙ apart_inserted c.args.row rs c.args.self.now.once c.requires.fresh,
-        (omega (arith, now_len c, c.requires.room, c.args.self.now.fitted), (omega (arith, c.insert.ensures.capacity, c.args.self.now.reserved), (c.args.self.now.fitted, tt))),
-      ),
-    )
+    let e = now_rows c in
+    record {
+      ordered = ap (λ xs. falling 32 (row_prefixes xs)) e ∙ falling_inserted c.args.row 32 rs c.args.self.now.ordered (short_enough c.args.row);
+      once = ap (λ xs. apart (row_prefixes xs)) e ∙ apart_inserted c.args.row rs c.args.self.now.once c.requires.fresh;
+      few = omega (arith, now_len c, c.requires.room, c.args.self.now.fitted);
+      reserved = omega (arith, c.insert.ensures.capacity, c.args.self.now.reserved);
+      fitted = c.args.self.now.fitted;
+    }
 
 pub returns : goal.returns
 returns c =

@@ -10,7 +10,13 @@ invariant_of-self c =
     let x = c.args.row in
     let low : row_of (vec_items c.args.self.now.rows) c.args.row.rule.prefix.value c.args.row.rule.prefix.length < length (vec_items c.args.self.now.rows) = omega (arith, c.requires.row, c.requires.within, c.args.self.now.rows.ok.0) in
     let e = ap (λ i. row_prefixes (set rs i x)) c.requires.row ∙ prefixes_set x rs low in
-    (ap (falling 32) e ∙ c.args.self.now.ordered, (ap apart e ∙ c.args.self.now.once, (c.args.self.now.few, (c.args.self.now.reserved, (c.args.self.now.fitted, tt)))))
+    record {
+      ordered = ap (falling 32) e ∙ c.args.self.now.ordered;
+      once = ap apart e ∙ c.args.self.now.once;
+      few = c.args.self.now.few;
+      reserved = c.args.self.now.reserved;
+      fitted = c.args.self.now.fitted;
+    }
 
 pub returns : goal.returns
 returns c =

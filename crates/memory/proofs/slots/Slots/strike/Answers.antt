@@ -7,13 +7,14 @@ use Rattle.memory.proofs.slots.Slots.strike.Goals as goal
 
 pub invariant_of-self : goal.invariant_of-self
 invariant_of-self c =
-    let rs = vec_items c.args.self.now.rows in (
-      ap (λ xs. falling 32 (row_prefixes xs)) c.remove.ensures.items ∙ falling_removed 32 rs c.args.i c.args.self.now.ordered,
-      (
-        ap (λ xs. apart (row_prefixes xs)) c.remove.ensures.items ∙ apart_removed rs c.args.i c.args.self.now.once,
-        (omega (arith, c.remove.ensures.len, c.args.self.now.few), (omega (arith, c.remove.ensures.capacity, c.args.self.now.reserved), (c.args.self.now.fitted, tt))),
-      ),
-    )
+    let rs = vec_items c.args.self.now.rows in
+    record {
+      ordered = ap (λ xs. falling 32 (row_prefixes xs)) c.remove.ensures.items ∙ falling_removed 32 rs c.args.i c.args.self.now.ordered;
+      once = ap (λ xs. apart (row_prefixes xs)) c.remove.ensures.items ∙ apart_removed rs c.args.i c.args.self.now.once;
+      few = omega (arith, c.remove.ensures.len, c.args.self.now.few);
+      reserved = omega (arith, c.remove.ensures.capacity, c.args.self.now.reserved);
+      fitted = c.args.self.now.fitted;
+    }
 
 pub returns : goal.returns
 returns c =
