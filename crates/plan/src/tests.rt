@@ -59,9 +59,10 @@ fn tied_services_stay_level(rt: HostRuntime) -> Result<(), Fail> {
     let planned = plan(&Even, 8, 3, &two(51, 51))?;
     assert_eq!(rt; planned.worst, 51);
     assert_eq!(rt; planned.rules, 2);
-    assert_eq!(rt; planned.weights[0], Some(0));
-    assert_eq!(rt; planned.weights[63], Some(0));
-    assert_eq!(rt; planned.weights[1], None);
+    let weights = planned.weights;
+    assert_eq!(rt; weights[0], Some(0));
+    assert_eq!(rt; weights[63], Some(0));
+    assert_eq!(rt; weights[1], None);
     Ok(())
 }
 
@@ -72,8 +73,9 @@ fn capacity_decides(rt: HostRuntime) -> Result<(), Fail> {
     assert_eq!(rt; (exact.worst, exact.rules), (0, 7));
     let tight = plan(&Even, 8, 5, &two(51, 128))?;
     assert_eq!(rt; (tight.worst, tight.rules), (3, 5));
-    assert_eq!(rt; tight.weights[0], Some(48));
-    assert_eq!(rt; tight.weights[63], Some(128));
+    let weights = tight.weights;
+    assert_eq!(rt; weights[0], Some(48));
+    assert_eq!(rt; weights[63], Some(128));
     let least = plan(&Even, 8, 2, &two(51, 128))?;
     assert_eq!(rt; (least.worst, least.rules), (128, 2));
     Ok(())
@@ -106,8 +108,9 @@ fn ends_are_exact(rt: HostRuntime) -> Result<(), Fail> {
     assert_eq!(rt; (even.worst, even.rules), (0, 2));
     let relative = plan(&Relative, 8, 2, &two(0, 256))?;
     assert_eq!(rt; (relative.worst, relative.rules), (0, 2));
-    assert_eq!(rt; relative.weights[0], Some(0));
-    assert_eq!(rt; relative.weights[63], Some(256));
+    let weights = relative.weights;
+    assert_eq!(rt; weights[0], Some(0));
+    assert_eq!(rt; weights[63], Some(256));
     Ok(())
 }
 
