@@ -3,7 +3,7 @@ use Rattle.rules.specs.Shortest.{L}
 use Rattle.shares.specs.Texts.{plan_line, plan_lines}
 use Rattle.shares.proofs.Planning.{lines_some, lines_none, lines_end, every_at}
 use Rattle.shares.proofs.plans.lines_text.Goals as goal
-use Rattle.shares.proofs.plans.lines_text.Goals.{in-Some+in_ok-line+in_ok-push_str, in-None}
+use Rattle.shares.proofs.plans.lines_text.Goals.{in-Some+in_ok-line-in-Some+in_ok-push_str-in-Some, in-None}
 
 pub line_text-requires : goal.line_text-requires
 line_text-requires c = (
@@ -23,9 +23,9 @@ loop-i-preserved c =
     let one : i + 1 ≡ suc i = add-one i in
     ap (λ (k : ℕ). string_bytes c.match-weights-i.text ++ plan_lines W (drop k ts) (drop k ds)) one
     ∙ elim c.match-weights-i.branch [
-      | in-Some+in_ok-line+in_ok-push_str w ↦
-          (let line = w.as_str.ensures.value ∙ w.in_ok-line.ensures in
-          ap (λ (x : List ℕ). x ++ more) (ap string_bytes w.text-is ∙ w.in_ok-push_str.ensures.bytes ∙ ap (λ (x : List ℕ). before ++ x) line)
+      | in-Some+in_ok-line-in-Some+in_ok-push_str-in-Some w ↦
+          (let line = w.as_str.ensures.value ∙ w.in_ok-line-in-Some.ensures in
+          ap (λ (x : List ℕ). x ++ more) (ap string_bytes w.text-is ∙ w.in_ok-push_str-in-Some.ensures.bytes ∙ ap (λ (x : List ℕ). before ++ x) line)
           ∙ append_assoc before (plan_line (get_or ts i 0) w.in-Some.weight (L W w.in-Some.weight)) more
           ∙ ap (λ (x : List ℕ). before ++ x) (sym (lines_some W ts ds i w.in-Some.weight (omega arith) (omega arith) w.in-Some.is)))
       | in-None w ↦
