@@ -1,4 +1,4 @@
-use Rattle.std.proofs.Common.{◌≡◌, ℕ, List, get_or, set, Some, Option, ap, ◌∙◌, arith}
+use Rattle.std.proofs.Common.{ℕ, List, get_or, set, Some, Option, ap, ◌∙◌, arith}
 use Rattle.shares.proofs.Planning.{tag_more, tagged_is}
 use Rattle.shares.proofs.plans.by_tag.Goals as goal
 

@@ -1,4 +1,4 @@
-use Rattle.std.proofs.Common.{◌≡◌, ℕ, ◌++◌, IfOk, string_bytes, subst, rules}
+use Rattle.std.proofs.Common.{◌≡◌, ℕ, IfOk, string_bytes, subst, rules}
 use Rattle.shares.specs.Texts.{plan_line}
 use Rattle.shares.proofs.plans.line_text.Goals as goal
 

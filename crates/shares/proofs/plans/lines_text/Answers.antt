@@ -1,4 +1,4 @@
-use Rattle.std.proofs.Common.{◌≡◌, ℕ, suc, ◌+◌, ◌^◌, ◌≤◌, List, [], ◌∷◌, ◌++◌, get_or, drop, string_bytes, sym, ap, ◌∙◌, ap₂, append_assoc, append-nil, add-one, arith}
+use Rattle.std.proofs.Common.{◌≡◌, ℕ, suc, ◌+◌, ◌^◌, ◌≤◌, List, ◌++◌, get_or, drop, string_bytes, sym, ap, ◌∙◌, append_assoc, append-nil, add-one, arith}
 use Rattle.rules.specs.Shortest.{L}
 use Rattle.shares.specs.Texts.{plan_line, plan_lines}
 use Rattle.shares.proofs.Planning.{lines_some, lines_none, lines_end, every_at}

@@ -1,4 +1,4 @@
-use Rattle.std.proofs.Common.{◌≡◌, ℕ, List, ◌∷◌, map, string_bytes, decimal, sym, ap, ◌∙◌, subst, ap₂, MatchOption}
+use Rattle.std.proofs.Common.{ℕ, List, ◌∷◌, map, string_bytes, decimal, sym, ap, ◌∙◌, subst, ap₂, MatchOption}
 use Rattle.std.proofs.lemmas.Option.{MatchOption-at_none, MatchOption-at_some}
 use Rattle.std.proofs.lemmas.Result.{IfOk-weaker}
 use Rattle.shares.specs.Requests.{Spelled, Unspelled}

@@ -1,4 +1,4 @@
-use Rattle.std.proofs.Common.{◌≡◌, ℕ, ◌<◌, ◌≤◌, ◌∷◌, map, length, codes, decimal, MatchOption}
+use Rattle.std.proofs.Common.{◌≡◌, ◌<◌, ◌≤◌, ◌∷◌, map, length, codes, decimal, MatchOption}
 use Rattle.std.proofs.lemmas.Result.{IfOk-weaker}
 use Rattle.shares.specs.Requests.{Spelled}
 use Rattle.shares.proofs.Words.{by_order, only_table, only_nearest, only_plan, few_numbers}

@@ -1,8 +1,7 @@
-use Rattle.std.proofs.Common.{◌≡◌, ℕ, ◌+◌, ◌<◌, List, [], ◌∷◌, ◌++◌, length, get_or, take, string_bytes, sym, ap, ◌∙◌, append_assoc, append-nil, arith}
-use Rattle.std.proofs.lemmas.List.{take_all, take_more}
-use Rattle.rules.specs.declared.rule.Rule.{Rule}
+use Rattle.std.proofs.Common.{ℕ, List, ◌++◌, take, sym, ap, ◌∙◌, arith}
+use Rattle.std.proofs.lemmas.List.{take_all}
 use Rattle.rules.specs.declared.server.Server.TheVariants.{One}
-use Rattle.shares.specs.Texts.{rule_line, rule_lines}
+use Rattle.shares.specs.Texts.{rule_lines}
 use Rattle.shares.proofs.Lines.{lines_more}
 use Rattle.shares.proofs.tables.rules_text.Goals as goal
 
