@@ -37,5 +37,5 @@ returns c =
     record {
       refused = c.count_addresses.ensures.refused
           ∙ same_grounds W bytes rs e (omega arith) (omega (arith, read.0, length-take (n - 0) c.read_rules.new.rules));
-      counted = read_and_counted W bytes rs e (λ i. omega (arith, c.type-inv.records i)) c.count_addresses.result c.count_addresses.ensures.refused c.count_addresses.ensures.counted;
+      counted = read_and_counted W bytes rs e (λ i. omega (arith, c.type_inv.records i)) c.count_addresses.result c.count_addresses.ensures.refused c.count_addresses.ensures.counted;
     }

@@ -13,7 +13,7 @@ record_bytes-requires c = (subst (λ (rs : List Rule). All (λ r. r.length < 256
 pub loop-rule-preserved : goal.loop-rule-preserved
 loop-rule-preserved c =
     let table = to_come c.into_iter-rule-iterator.result in
-    let room : 8 * length table ≤ length c.loop-rule.out = omega (arith, c.requires.room, ap (λ (t : Table). length (to_come t)) c.into_iter-rule-iterator.ensures.into_iter-gives) in
+    let room : 8 * length table ≤ length c.loop-rule.out = omega (arith, c.requires.room, ap (λ (t : Table). length (to_come t)) c.into_iter-rule-iterator.ensures.into_iter_gives) in
     turn c.loop-rule.at table (to_come c.loop-rule.rule-iterator) (to_come c.next.new.self) c.in-Some.rule c.loop-rule.out
     c.args.out.now c.copy_from_slice.new.self c.in-Some.ensures.steps (c.copy_from_slice.ensures.after ∙ c.record_bytes.ensures) room
     c.loop-rule.invariant.1 c.loop-rule.invariant
@@ -21,6 +21,6 @@ loop-rule-preserved c =
 pub returns : goal.returns
 returns c =
     let inv = c.loop-rule.invariant in
-    subst (λ (t : Table). c.loop-rule.out ≡ records_of (to_come t) ++ drop (8 * length (to_come t)) c.args.out.now) c.into_iter-rule-iterator.ensures.into_iter-gives
+    subst (λ (t : Table). c.loop-rule.out ≡ records_of (to_come t) ++ drop (8 * length (to_come t)) c.args.out.now) c.into_iter-rule-iterator.ensures.into_iter_gives
     (written_all c.loop-rule.at (to_come c.into_iter-rule-iterator.result) (to_come c.loop-rule.rule-iterator) c.loop-rule.out c.args.out.now
     c.in-None.ensures.steps.0 inv.1 inv.2 inv.3)

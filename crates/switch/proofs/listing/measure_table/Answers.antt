@@ -12,7 +12,7 @@ use Rattle.switch.proofs.listing.measure_table.Goals as goal
 pub loop-rule-init : goal.loop-rule-init
 loop-rule-init c =
     let few = table_few c.args.width.bits c.in-Some.weight c.args.width.most (subst (Fit c.args.width.bits) c.in-Some.is c.requires) in
-    let long = ap (λ t. length (to_come t)) c.into_iter-rule-iterator.ensures.into_iter-gives in
+    let long = ap (λ t. length (to_come t)) c.into_iter-rule-iterator.ensures.into_iter_gives in
     (omega arith, omega arith, omega arith, omega (arith, long, ap length c.table_for-rule-items.ensures.rules, few))
 
 pub loop-rule-preserved : goal.loop-rule-preserved
@@ -32,7 +32,7 @@ returns c =
     let t = c.args.tag in
     let inv = c.loop-rule.invariant in
     let rest = c.in-None.ensures.steps.0 in
-    let all = ap to_come c.into_iter-rule-iterator.ensures.into_iter-gives ∙ c.table_for-rule-items.ensures.rules ∙ ap (table_of c.args.width.bits) (sym c.in-Some.is) in
+    let all = ap to_come c.into_iter-rule-iterator.ensures.into_iter_gives ∙ c.table_for-rule-items.ensures.rules ∙ ap (table_of c.args.width.bits) (sym c.in-Some.is) in
     let long = length-map (table_of c.args.width.bits c.args.weight) (under t) in
     record {
       bytes = omega (arith, inv.0, ap (λ (rs : List Rule). length (lines (map (under t) rs))) rest, ap (λ (rs : List Rule). length (lines (map (under t) rs))) all);

@@ -14,7 +14,7 @@ write_line-used-requires c =
     let rs = to_come c.loop-rule.rule-iterator in
     let more = to_come c.next.new.self in
     let text = lines (map (under t) (to_come c.into_iter-rule-iterator.result)) in
-    let all = ap to_come c.into_iter-rule-iterator.ensures.into_iter-gives ∙ c.table_for-rule-items.ensures.rules ∙ ap (table_of c.args.width.bits) (sym c.in-Some.is) in
+    let all = ap to_come c.into_iter-rule-iterator.ensures.into_iter_gives ∙ c.table_for-rule-items.ensures.rules ∙ ap (table_of c.args.width.bits) (sym c.in-Some.is) in
     omega (
       arith,
       turn_room text c.args.out.now (lines (map (under t) rs)) c.loop-rule.out (line (under t r)) (lines (map (under t) more)) c.loop-rule.used c.loop-rule.invariant (rule_more t rs more r c.in-Some-rule.ensures.steps),
@@ -29,7 +29,7 @@ overflow_add-used c =
     let rs = to_come c.loop-rule.rule-iterator in
     let more = to_come c.next.new.self in
     let text = lines (map (under t) (to_come c.into_iter-rule-iterator.result)) in
-    let all = ap to_come c.into_iter-rule-iterator.ensures.into_iter-gives ∙ c.table_for-rule-items.ensures.rules ∙ ap (table_of c.args.width.bits) (sym c.in-Some.is) in
+    let all = ap to_come c.into_iter-rule-iterator.ensures.into_iter_gives ∙ c.table_for-rule-items.ensures.rules ∙ ap (table_of c.args.width.bits) (sym c.in-Some.is) in
     omega (
       arith,
       turn_room text c.args.out.now (lines (map (under t) rs)) c.loop-rule.out (line (under t r)) (lines (map (under t) more)) c.loop-rule.used c.loop-rule.invariant (rule_more t rs more r c.in-Some-rule.ensures.steps),
@@ -50,7 +50,7 @@ returns c =
     let t = c.args.tag in
     let o = c.args.out.now in
     let rs = to_come c.loop-rule.rule-iterator in
-    let whole = ap to_come c.into_iter-rule-iterator.ensures.into_iter-gives ∙ c.table_for-rule-items.ensures.rules ∙ ap (table_of c.args.width.bits) (sym c.in-Some.is) in
+    let whole = ap to_come c.into_iter-rule-iterator.ensures.into_iter_gives ∙ c.table_for-rule-items.ensures.rules ∙ ap (table_of c.args.width.bits) (sym c.in-Some.is) in
     let text = lines (map (under t) (to_come c.into_iter-rule-iterator.result)) in
     let rest = ap (λ (xs : List Rule). lines (map (under t) xs)) c.in-None.ensures.steps.0 in
     let all = filled_as text o (lines (map (under t) rs)) [] c.loop-rule.out c.loop-rule.used rest c.loop-rule.invariant in
