@@ -1,6 +1,6 @@
 -- The laws of the lines: a line is a letter with numbers, each spelled in its own way.
 use Rattle.std.proofs.Common.{◌≡◌, ℕ, suc, ◌+◌, ◌*◌, ◌^◌, ◌<◌, ◌≤◌, cond, eqb, List, [], ◌∷◌, ◌++◌, length, decimal, sym, refl, ap, ◌∙◌, subst, ap₂, arith, lit<}
-use Rattle.std.specs.List.{AllByRecursion as All}
+use Rattle.std.specs.List.{AllByRecursion}
 use Rattle.std.proofs.lemmas.Fmt.{decimal_injective, length-decimal-le}
 use Rattle.std.proofs.lemmas.List.{append-nil, append_assoc, length-append, append_cancel_right}
 use Rattle.model.specs.declared.order.Order.TheVariants.{Enter, Reweigh, Withdraw}
@@ -58,7 +58,7 @@ front (Place (Withdraw tag)) = ap (λ (xs : List ℕ). 119 ∷ 32 ∷ xs ++ 10 �
 front (Look tag address) = ap (λ (xs : List ℕ). xs ++ 10 ∷ []) (two 108 tag address)
 front Listing = refl
 
-small_numbers : (c : Command) → Small c → All (λ n. n < 2 ^ 32) (numbers c)
+small_numbers : (c : Command) → Small c → AllByRecursion (λ n. n < 2 ^ 32) (numbers c)
 small_numbers (Make width capacity) (h, k) = (h, (k, tt))
 small_numbers (Place (Enter tag target)) (h, k) = (h, (k, tt))
 small_numbers (Place (Reweigh tag target)) (h, k) = (h, (k, tt))
@@ -75,13 +75,13 @@ few_numbers (Look tag address) = omega arith
 few_numbers Listing = omega arith
 
 -- a field has at most 11 bytes
-fields_short : (ns : List ℕ) → All (λ n. n < 2 ^ 32) ns → length (fields ns) ≤ 11 * length ns
+fields_short : (ns : List ℕ) → AllByRecursion (λ n. n < 2 ^ 32) ns → length (fields ns) ≤ 11 * length ns
 unfolding fields
 fields_short [] h = omega arith
 fields_short (n ∷ ns) (h, hs) =
     omega (arith, length-append (decimal n) (fields ns), length-decimal-le 10 n (lit< tt) (omega arith) (omega arith), fields_short ns hs)
 
-fields_without : (ns : List ℕ) → All (λ n. n < 2 ^ 32) ns → Without 10 (fields ns)
+fields_without : (ns : List ℕ) → AllByRecursion (λ n. n < 2 ^ 32) ns → Without 10 (fields ns)
 unfolding fields
 fields_without [] h = λ k l e. omega arith
 fields_without (n ∷ ns) (h, hs) =
@@ -97,7 +97,7 @@ not_ten (Look tag address) e = omega arith
 not_ten Listing e = omega arith
 
 -- fields spell one list of numbers
-same_fields : (ms ns : List ℕ) → All (λ n. n < 2 ^ 32) ms → All (λ n. n < 2 ^ 32) ns → fields ms ≡ fields ns → ms ≡ ns
+same_fields : (ms ns : List ℕ) → AllByRecursion (λ n. n < 2 ^ 32) ms → AllByRecursion (λ n. n < 2 ^ 32) ns → fields ms ≡ fields ns → ms ≡ ns
 unfolding fields
 same_fields [] [] h k e = refl
 same_fields [] (n ∷ ns) h k e = let z : ◌≡◌ {A = ℕ} 0 (suc (length (decimal n ++ fields ns))) = ap length e in absurd (omega arith)

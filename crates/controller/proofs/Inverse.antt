@@ -1,6 +1,6 @@
 -- Writing records and reading them are inverse.
 use Rattle.std.proofs.Common.{◌≡◌, ℕ, ◌+◌, ◌*◌, ◌/◌, ◌%◌, ◌^◌, ◌<◌, ◌≤◌, Bool, true, false, cond, ◌&&◌, eqb, List, [], ◌∷◌, ◌++◌, length, get_or, Some, None, Option, sym, refl, ap, ◌∙◌, ap₂, arith, pow_mono}
-use Rattle.std.specs.List.{AllByRecursion as All}
+use Rattle.std.specs.List.{AllByRecursion}
 use Rattle.std.proofs.lemmas.Bool.Decides.{nat_tests}
 use Rattle.rules.specs.declared.rule.Rule.{Rule}
 use Rattle.rules.specs.declared.server.Server.{Server}
@@ -72,7 +72,7 @@ ahead_told (Some r) (Some qs) rs e = (r, qs, refl, refl, cc)
 nothing : {A : Type 0} (rs : List Rule) → ◌≡◌ {A = Option (List Rule)} None (Some rs) → A
 nothing rs e = let z : ◌≡◌ {A = ℕ} 0 1 = cc in absurd (omega arith)
 
-exact : (bytes : List ℕ) (rs : List Rule) → All (λ b. b < 256) bytes → rules_in bytes ≡ Some rs → bytes ≡ records_of rs
+exact : (bytes : List ℕ) (rs : List Rule) → AllByRecursion (λ b. b < 256) bytes → rules_in bytes ≡ Some rs → bytes ≡ records_of rs
 exact [] rs h e = let p : [] ≡ rs = cc in ap records_of p
 exact (a ∷ []) rs h e = nothing rs e
 exact (a ∷ b ∷ []) rs h e = nothing rs e

@@ -1,7 +1,7 @@
 -- Records are written one behind the other.
 use Rattle.std.proofs.Common.{◌≡◌, ℕ, ◌+◌, ◌-◌, ◌*◌, ◌<◌, ◌≤◌, true, List, [], ◌∷◌, ◌++◌, length, take, drop, None, sym, ap, ◌∙◌, subst, append_assoc, arith}
 use borrow.Rule.Slice.PartMut.{put_mid}
-use Rattle.std.specs.List.{AllByRecursion as All}
+use Rattle.std.specs.List.{AllByRecursion}
 use Rattle.std.proofs.lemmas.List.{take-append-drop, drop-drop, append-nil}
 use Rattle.std.proofs.lemmas.Slice.{take-put_mid, drop-put_mid}
 use Rattle.std.proofs.lemmas.Bool.Decides.{nat_tests}
@@ -13,7 +13,7 @@ use Rattle.controller.specs.Records.{record_of, records_of}
 use Rattle.controller.proofs.Inverse.{both}
 
 -- a table's lengths are bytes
-pub small : (W d : ℕ) (rs : List Rule) → None ≡ first (weight_grounds W d) → all_fit W rs ≡ true → All (λ r. r.length < 256) rs
+pub small : (W d : ℕ) (rs : List Rule) → None ≡ first (weight_grounds W d) → all_fit W rs ≡ true → AllByRecursion (λ r. r.length < 256) rs
 small W d [] n f = tt
 small W d (r ∷ rs) n f =
     let w : W ≤ 24 = grind (arith, nat_tests) in
@@ -26,8 +26,8 @@ module _ (at : ℕ) (table rest more : List Rule) (r : Rule) (out before put : L
   inside : at + 8 ≤ length out
   inside = omega (arith, ap length s)
 
-  small_more : All (λ q. q.length < 256) rest → All (λ q. q.length < 256) more
-  small_more h = (subst (λ (qs : List Rule). All (λ q. q.length < 256) qs) s h).1
+  small_more : AllByRecursion (λ q. q.length < 256) rest → AllByRecursion (λ q. q.length < 256) more
+  small_more h = (subst (λ (qs : List Rule). AllByRecursion (λ q. q.length < 256) qs) s h).1
 
   count_more : at + 8 + 8 * length more ≡ 8 * length table
   count_more = omega (arith, ap length s)
@@ -43,8 +43,8 @@ module _ (at : ℕ) (table rest more : List Rule) (r : Rule) (out before put : L
       drop-put_mid at (at + 8 - at) out put (at + 8) (omega arith) (omega (arith, inside)) (omega (arith, ap length p))
       ∙ sym (drop-drop 8 at out) ∙ ap (drop 8) k ∙ drop-drop 8 at before
 
-  pub turn : All (λ q. q.length < 256) rest × (at + 8 * length rest ≡ 8 * length table) × (take at out ++ records_of rest ≡ records_of table) × (drop at out ≡ drop at before)
-      → All (λ q. q.length < 256) more × (at + 8 + 8 * length more ≡ 8 * length table)
+  pub turn : AllByRecursion (λ q. q.length < 256) rest × (at + 8 * length rest ≡ 8 * length table) × (take at out ++ records_of rest ≡ records_of table) × (drop at out ≡ drop at before)
+      → AllByRecursion (λ q. q.length < 256) more × (at + 8 + 8 * length more ≡ 8 * length table)
       × (take (at + 8) (put_mid at (at + 8 - at) out put) ++ records_of more ≡ records_of table) × (drop (at + 8) (put_mid at (at + 8 - at) out put) ≡ drop (at + 8) before)
   turn inv = (small_more inv.0, count_more, written_more inv.2, kept_more inv.3)
 

@@ -1,6 +1,6 @@
 -- Rules as bytes: a record of eight bytes for each rule, one record behind the other.
 use Rattle.std.specs.Prelude.{◌≡◌, ℕ, ◌+◌, ◌*◌, ◌/◌, ◌%◌, ◌^◌, ◌<◌, ◌≤◌, Bool, true, false, cond, ◌&&◌, List, [], ◌∷◌, ◌++◌, length, Some, None, Option, ◌==◌, ◌≢◌, slice_index}
-use Rattle.std.specs.List.{AllByRecursion as All}
+use Rattle.std.specs.List.{AllByRecursion}
 use Rattle.rules.specs.declared.rule.Rule.{Rule}
 use Rattle.rules.specs.declared.server.Server.{Server}
 use Rattle.rules.specs.declared.server.Server.TheVariants.{One, Two}
@@ -65,5 +65,5 @@ in_layout W bytes = fitting W (rules_in bytes)
 -- read as; and bytes that break the layout are the records of no rules that fit.
 pub record RecordLaws : Type 0 where
   pub read_back : (W : ℕ) (rs : List Rule) → W ≤ 24 → all_fit W rs ≡ true → rules_in (records_of rs) ≡ Some rs
-  pub exact : (bytes : List ℕ) (rs : List Rule) → All (λ b. b < 256) bytes → rules_in bytes ≡ Some rs → bytes ≡ records_of rs
+  pub exact : (bytes : List ℕ) (rs : List Rule) → AllByRecursion (λ b. b < 256) bytes → rules_in bytes ≡ Some rs → bytes ≡ records_of rs
   pub broken : (W : ℕ) (bytes : List ℕ) → W ≤ 24 → in_layout W bytes ≡ false → (rs : List Rule) → all_fit W rs ≡ true → bytes ≢ records_of rs

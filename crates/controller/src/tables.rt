@@ -1,6 +1,6 @@
 // The shortest table of a weight, written into a buffer of the caller's.
 ghost use Rattle.std.specs.Prelude.{◌≡◌, ◌*◌, ◌^◌, ◌<◌, ◌≤◌, ◌++◌, length, drop, MatchResult};
-ghost use Rattle.std.specs.List.{AllByRecursion as All};
+ghost use Rattle.std.specs.List.{AllByRecursion};
 ghost use Rattle.rules.specs.Refusals.{first, refusal};
 ghost use Rattle.rules.specs.Shortest.{L};
 ghost use Rattle.rules.specs.Walk.{to_come};
@@ -43,7 +43,7 @@ fn write_table(width: u32, weight: u32, out: &mut [u8]) -> Result<u32, Refusal>
 }
 
 fn write_rules(table: Table, out: &mut [u8])
-    requires small { All (λ rule. rule.length < 256) (to_come table) }
+    requires small { AllByRecursion (λ rule. rule.length < 256) (to_come table) }
     requires room { 8 * length (to_come table) ≤ length out.old }
     ensures { out.new ≡ records_of (to_come table) ++ drop (8 * length (to_come table)) out.old }
 {

@@ -2,7 +2,7 @@
 use Rattle.std.proofs.Common.{◌≡◌, ℕ, zero, suc, ◌+◌, ◌-◌, ◌*◌, ◌/◌, ◌%◌, ◌^◌, ◌<◌, ◌≤◌, true, eqb, ltb, leb, List, [], ◌∷◌, map, Some, None, Option, sym, refl, ap, ◌∙◌, subst, mod-lt, mul_assoc, arith, pow_pos, pow-add}
 use native.Mathlib.Nat.{mod-le, mul-add-mod_self_right}
 use lib.Arith.{digits_div, digits_mod}
-use Rattle.std.specs.List.{ContainsAt as Has, AllByRecursion as All}
+use Rattle.std.specs.List.{ContainsAt, AllByRecursion}
 use Rattle.std.proofs.ByRecursion.{all-has, All-weaker}
 use Rattle.std.proofs.lemmas.Bool.{and_parts, and_from, eqb-true, eq-eqb, leb-true, ltb-true, cond-true, cond-false}
 use Rattle.rules.specs.declared.rule.Rule.{Rule}
@@ -63,7 +63,7 @@ module _ (W t : ℕ) where
   -- ---- what a list of rules has at a prefix
 
   -- nothing where no rule has the prefix
-  none_at : (v l : ℕ) (rs : List Rule) → All (λ q. key W t q.start ≡ v → 32 - W + q.length ≡ l → ⊥) rs → listed (map (keyed W t) rs) v l ≡ None
+  none_at : (v l : ℕ) (rs : List Rule) → AllByRecursion (λ q. key W t q.start ≡ v → 32 - W + q.length ≡ l → ⊥) rs → listed (map (keyed W t) rs) v l ≡ None
   none_at v l [] h = refl
   none_at v l (q ∷ rs) h =
       cond-false (same_prefix (keyed W t q).prefix v l) _ _ (off_unless _ (λ e.
@@ -72,7 +72,7 @@ module _ (W t : ℕ) where
       ∙ none_at v l rs h.1
 
   -- where lengths rise, a rule's own server at its prefix
-  rule_at : (r : Rule) (rs : List Rule) → Rising rs → Has rs r → listed (map (keyed W t) rs) (key W t r.start) (32 - W + r.length) ≡ Some r.server
+  rule_at : (r : Rule) (rs : List Rule) → Rising rs → ContainsAt rs r → listed (map (keyed W t) rs) (key W t r.start) (32 - W + r.length) ≡ Some r.server
   rule_at r [] up (k, h, e) = absurd (omega arith)
   rule_at r (q ∷ rs) up (zero, h, e) =
       let it : q ≡ r = e q in
@@ -80,7 +80,7 @@ module _ (W t : ℕ) where
       (and_from _ _ (eq-eqb _ _ (ap (λ x. key W t x.start) it)) (eq-eqb _ _ (ap (λ x. 32 - W + x.length) it)))
       ∙ ap (λ x. Some x.server) it
   rule_at r (q ∷ rs) up (suc k, h, e) =
-      let later : Has rs r = (k, omega arith, e) in
+      let later : ContainsAt rs r = (k, omega arith, e) in
       let longer = all-has (λ x. q.length < x.length) rs r up.0 later in
       cond-false (same_prefix (keyed W t q).prefix (key W t r.start) (32 - W + r.length)) _ _ (off_unless _ (λ f.
       let p = and_parts (eqb (key W t q.start) (key W t r.start)) (eqb (32 - W + q.length) (32 - W + r.length)) f in
@@ -88,7 +88,7 @@ module _ (W t : ℕ) where
       ∙ rule_at r rs up.1 later
 
   -- nothing at a prefix of a key that is longer than every rule that matches the address
-  none_longer : (a n m : ℕ) (rs : List Rule) → W ≤ 32 → n ≤ W → m < n → All (λ q. matches W q a ≡ true → q.length ≤ m) rs
+  none_longer : (a n m : ℕ) (rs : List Rule) → W ≤ 32 → n ≤ W → m < n → AllByRecursion (λ q. matches W q a ≡ true → q.length ≤ m) rs
       → listed (map (keyed W t) rs) (cut (key W t a) (32 - W + n)) (32 - W + n) ≡ None
   none_longer a n m rs w h less all =
       none_at (cut (key W t a) (32 - W + n)) (32 - W + n) rs

@@ -1,7 +1,7 @@
 -- The key rules of all services: prefixes of different tags never meet.
 use Rattle.std.proofs.Common.{◌≡◌, ℕ, zero, suc, ◌+◌, ◌-◌, ◌/◌, ◌^◌, ◌<◌, ◌≤◌, Bool, false, cond, not, ◌⊎◌, List, [], ◌∷◌, ◌++◌, map, get_or, replicate, is_some, Some, None, filter, Option, sym, refl, ap, ◌∙◌, ap₂, inl, inr, arith}
 use lib.Arith.{digits_div}
-use Rattle.std.specs.List.{flat_map, AllByRecursion as All}
+use Rattle.std.specs.List.{flat_map, AllByRecursion}
 use Rattle.std.specs.Option.{option_or}
 use Rattle.std.proofs.lemmas.Bool.{cases_eq}
 use Rattle.std.proofs.lemmas.List.Elements.{filter-append}
@@ -24,9 +24,9 @@ use Rattle.model.proofs.Moves.{moves}
 
 -- The value of each rule begins with the tag.
 abbrev Own : ℕ → ℕ → List KeyRule → Type 0
-Own W t rs = All (λ r. r.prefix.value / 2 ^ W ≡ t) rs
+Own W t rs = AllByRecursion (λ r. r.prefix.value / 2 ^ W ≡ t) rs
 
-kept_same : (p q : KeyRule → Bool) (xs : List KeyRule) → All (λ x. p x ≡ q x) xs → filter p xs ≡ filter q xs
+kept_same : (p q : KeyRule → Bool) (xs : List KeyRule) → AllByRecursion (λ x. p x ≡ q x) xs → filter p xs ≡ filter q xs
 kept_same p q [] h = refl
 kept_same p q (x ∷ xs) h = ap₂ (λ (b : Bool) (zs : List KeyRule). cond b (x ∷ zs) zs) h.0 (kept_same p q xs h.1)
 
@@ -70,7 +70,7 @@ module _ (W : ℕ) (f : ℕ → List KeyRule) (own : (t : ℕ) → Own W t (f t)
       (λ r e. tags_behind n (suc s) r.prefix.value r.prefix.length (omega arith)) (f s) (own s))
 
   -- a filter by tag is a filter of the whole
-  kept_tags : (p : ℕ → KeyRule → Bool) (q : KeyRule → Bool) (n s : ℕ) → ((t : ℕ) → s ≤ t → t < s + n → All (λ r. p t r ≡ q r) (f t))
+  kept_tags : (p : ℕ → KeyRule → Bool) (q : KeyRule → Bool) (n s : ℕ) → ((t : ℕ) → s ≤ t → t < s + n → AllByRecursion (λ r. p t r ≡ q r) (f t))
       → flat_map (λ t. filter (p t) (f t)) (from n s) ≡ filter q (flat_map f (from n s))
   unfolding from
   kept_tags p q zero s h = refl
@@ -85,10 +85,10 @@ abbrev pub InRange : ℕ → List (Option ℕ) → Type 0
 InRange W ds = (t d : ℕ) → get_or ds t None ≡ Some d → d ≤ 2 ^ W
 
 -- The rules of a service's table keep their layout.
-pub all_shapes : (W : ℕ) (ds : List (Option ℕ)) → InRange W ds → (t : ℕ) → All (Shape W) (table_of W (get_or ds t None))
+pub all_shapes : (W : ℕ) (ds : List (Option ℕ)) → InRange W ds → (t : ℕ) → AllByRecursion (Shape W) (table_of W (get_or ds t None))
 all_shapes W ds h t = go (get_or ds t None) (h t)
   where
-    go : (o : Option ℕ) → ((d : ℕ) → o ≡ Some d → d ≤ 2 ^ W) → All (Shape W) (table_of W o)
+    go : (o : Option ℕ) → ((d : ℕ) → o ≡ Some d → d ≤ 2 ^ W) → AllByRecursion (Shape W) (table_of W o)
     go None k = tt
     go (Some d) k = shapes W (table W d) (table_laws W d (k d refl)).fit
 

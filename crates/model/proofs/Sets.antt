@@ -3,7 +3,7 @@ use Rattle.std.proofs.Common.{◌≡◌, ℕ, zero, suc, ◌<◌, ◌≤◌, Boo
 use mathlib.Core.Logic.{∥∥₁_elim}
 use mathlib.Core.HLevel.{⊥_prop}
 use native.Mathlib.Decide.{dec_le}
-use Rattle.std.specs.List.{AllByRecursion as All}
+use Rattle.std.specs.List.{AllByRecursion}
 use Rattle.std.specs.Option.{option_or}
 use Rattle.std.proofs.lemmas.Bool.{cond_both, cond-true, cond-false, and_parts, and_from, or_left, or_right, eqb-true, both_ways, false≢true, not-true, not_from_false}
 use Rattle.std.proofs.lemmas.List.{nil_from_length}
@@ -37,7 +37,7 @@ at_same p v l P h x =
     subst (λ (u : ℕ). P u l) (eqb-true p.value v t.0) (subst (λ (k : ℕ). P p.value k) (eqb-true p.length l t.1) x)
 
 -- A list that never names a prefix has nothing there.
-pub listed_none : (rs : List KeyRule) (v l : ℕ) → All (λ r. same_prefix r.prefix v l ≡ false) rs → listed rs v l ≡ None
+pub listed_none : (rs : List KeyRule) (v l : ℕ) → AllByRecursion (λ r. same_prefix r.prefix v l ≡ false) rs → listed rs v l ≡ None
 listed_none [] v l h = refl
 listed_none (r ∷ rs) v l h = cond-false _ _ _ h.0 ∙ listed_none rs v l h.1
 
@@ -82,7 +82,7 @@ apart_holds (r ∷ rs) a =
     (not_from_false _ (sym (listed_among rs r.prefix.value r.prefix.length) ∙ ap is_some a.0)) (apart_holds rs a.1)
 
 -- Lists that are apart, and lack each other's prefixes, are apart in a row.
-pub apart_append : (xs ys : List KeyRule) → Apart xs → Apart ys → All (λ r. at (listed ys) r.prefix ≡ None) xs → Apart (xs ++ ys)
+pub apart_append : (xs ys : List KeyRule) → Apart xs → Apart ys → AllByRecursion (λ r. at (listed ys) r.prefix ≡ None) xs → Apart (xs ++ ys)
 apart_append [] ys a b h = b
 apart_append (x ∷ xs) ys a b h = (
   listed_append xs ys x.prefix.value x.prefix.length ∙ ap (λ o. option_or o (at (listed ys) x.prefix)) a.0 ∙ h.0,

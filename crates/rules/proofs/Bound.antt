@@ -1,7 +1,7 @@
 -- No list of rules that leaves no address out gives server 1 a weight with fewer rules than L says: each rule changes the digit count of what a
 -- server gets by one at most.
 use Rattle.std.proofs.Common.{◌≡◌, ℕ, zero, suc, ◌+◌, ◌-◌, ◌^◌, ◌≤◌, min, Bool, true, false, cond, ◌⊎◌, List, [], ◌∷◌, length, is_some, Some, None, sym, refl, ap, ◌∙◌, subst, inl, inr, arith, pow_pos}
-use Rattle.std.specs.List.{AllByRecursion as All}
+use Rattle.std.specs.List.{AllByRecursion}
 use Rattle.rules.specs.declared.rule.Rule.{Rule}
 use Rattle.rules.specs.declared.server.Server.{Server}
 use Rattle.rules.specs.declared.server.Server.TheVariants.{One, Two}
@@ -44,7 +44,7 @@ side_both (away l e n) (whole e' z') = omega arith
 side_both (away l e n) (child l' t' e' b' f') = omega (arith, ap some_length e')
 side_both (away l e n) (away l' e' n') = omega arith
 
-sides_both : (W : ℕ) (rs : List Rule) (f : All (Shape (suc W)) rs) → sides W 0 rs f + sides W 1 rs f ≤ inner rs
+sides_both : (W : ℕ) (rs : List Rule) (f : AllByRecursion (Shape (suc W)) rs) → sides W 0 rs f + sides W 1 rs f ≤ inner rs
 unfolding sides
 sides_both W [] f = omega arith
 sides_both W (r ∷ rs) f = omega (arith, side_both (view W 0 r f.0) (view W 1 r f.0), sides_both W rs f.1)
@@ -69,7 +69,7 @@ keep_spare {r = r} (child (suc l) t e b f) ps rs s k (inr h) = inr (omega arith)
 keep_spare {r = r} (away l e n) ps rs s k (inl h) = inl (h.0 ∙ sym (ap (λ (n : ℕ). pick n r.server (top rs s)) e), omega (arith, h.1))
 keep_spare {r = r} (away l e n) ps rs s k (inr h) = inr (omega arith)
 
-part_spare : (W q : ℕ) (rs : List Rule) (f : All (Shape (suc W)) rs) (s : Server)
+part_spare : (W q : ℕ) (rs : List Rule) (f : AllByRecursion (Shape (suc W)) rs) (s : Server)
     → Spare (top (part W q rs f) s) (top rs s) (inner (part W q rs f)) (sides W q rs f)
 unfolding part sides
 part_spare W q [] f s = inl (refl, omega arith)
@@ -94,7 +94,7 @@ settle W ps s x k (inl h) c =
 settle W ps s x k (inr h) c = cost_more (suc (inner ps)) k (count (other x) W ps s) h (swap (inner ps) W ps s (top ps s) x c)
 
 -- at the width 0 the first rule decides
-first : (rs : List Rule) → All (Shape 0) rs → (s : Server) → at 0 rs s 0 ≡ top rs s
+first : (rs : List Rule) → AllByRecursion (Shape 0) rs → (s : Server) → at 0 rs s 0 ≡ top rs s
 first [] f s = refl
 first (r ∷ rs) f s =
     let e : r.length ≡ 0 = omega (arith, f.0.short) in
@@ -102,7 +102,7 @@ first (r ∷ rs) f s =
     let t : matches 0 r 0 ≡ true = within_in r.start (2 ^ (0 - r.length)) 0 (omega arith) (omega (arith, pow_pos (0 - r.length))) in
     ap (λ (b : Bool). cond b r.server (at 0 rs s 0)) t ∙ sym (ap (λ (n : ℕ). pick n r.server (top rs s)) e)
 
-costs : (W : ℕ) (rs : List Rule) → All (Shape W) rs → (s : Server) → Costs (inner rs) W rs s (top rs s)
+costs : (W : ℕ) (rs : List Rule) → AllByRecursion (Shape W) rs → (s : Server) → Costs (inner rs) W rs s (top rs s)
 unfolding count
 costs zero rs f s =
     cost_zero (inner rs) _ (omega (arith, ap (is (other (top rs s))) (first rs f s), same_other (top rs s)))
@@ -124,7 +124,7 @@ top_spare (r ∷ rs) s = go r.length (top_spare rs s)
     go (suc n) (inl h) = inl (h.0, omega (arith, h.1))
     go (suc n) (inr h) = inr (omega arith)
 
-default_costs : (W : ℕ) (rs : List Rule) → All (Shape W) rs → (s : Server) → Costs (length rs) W rs s s
+default_costs : (W : ℕ) (rs : List Rule) → AllByRecursion (Shape W) rs → (s : Server) → Costs (length rs) W rs s s
 default_costs W rs f s = settle W rs s s (length rs) (top_spare rs s) (costs W rs f s)
 
 -- ---- the last rule of a list that leaves no address out may match all
@@ -132,11 +132,11 @@ default_costs W rs f s = settle W rs s s (length rs) (top_spare rs s) (costs W r
 record Last (W : ℕ) (rs : List Rule) : Type 0 where
   front : List Rule
   server : Server
-  fits : All (Shape W) front
+  fits : AllByRecursion (Shape W) front
   shorter : suc (length front) ≡ length rs
   agrees : (a : ℕ) → is_some (first_match W rs a) ≡ true → first_match W rs a ≡ Some (at W front server a)
 
-last : (W : ℕ) (r : Rule) (rs : List Rule) → All (Shape W) (r ∷ rs) → Last W (r ∷ rs)
+last : (W : ℕ) (r : Rule) (rs : List Rule) → AllByRecursion (Shape W) (r ∷ rs) → Last W (r ∷ rs)
 last W r [] f = record {
   front = [];
   server = r.server;

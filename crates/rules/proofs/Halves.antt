@@ -1,7 +1,7 @@
 -- A list of rules cut into the two halves of the addresses.
 use Rattle.std.proofs.Common.{◌≡◌, ℕ, zero, suc, ◌+◌, ◌-◌, ◌*◌, ◌^◌, ◌<◌, ◌≤◌, Bool, true, false, cond, List, [], ◌∷◌, Some, sym, refl, ap, ◌∙◌, ap₂, mul-le-mul_right, lt_of_mul-lt-mul_right, pow-suc, le_of_mul-le-mul_right, arith, pow_pos, pow-add}
 use native.Mathlib.Decide.{dec_le}
-use Rattle.std.specs.List.{AllByRecursion as All}
+use Rattle.std.specs.List.{AllByRecursion}
 use Rattle.rules.specs.declared.rule.Rule.{Rule}
 use Rattle.rules.specs.declared.server.Server.{Server}
 use Rattle.rules.specs.declared.server.Server.TheVariants.{One, Two}
@@ -125,22 +125,22 @@ view W q r f = go r.length refl
 
 -- ---- a half of a list
 
-unfoldable pub part : (W q : ℕ) (rs : List Rule) → All (Shape (suc W)) rs → List Rule
+unfoldable pub part : (W q : ℕ) (rs : List Rule) → AllByRecursion (Shape (suc W)) rs → List Rule
 part W q [] f = []
 part W q (r ∷ rs) f = keep (view W q r f.0) (part W q rs f.1)
 
-unfoldable pub sides : (W q : ℕ) (rs : List Rule) → All (Shape (suc W)) rs → ℕ
+unfoldable pub sides : (W q : ℕ) (rs : List Rule) → AllByRecursion (Shape (suc W)) rs → ℕ
 sides W q [] f = 0
 sides W q (r ∷ rs) f = side (view W q r f.0) + sides W q rs f.1
 
 -- its rules fit
-keep_fits : {W q : ℕ} {r : Rule} (v : View W q r) (ps : List Rule) → All (Shape W) ps → All (Shape W) (keep v ps)
+keep_fits : {W q : ℕ} {r : Rule} (v : View W q r) (ps : List Rule) → AllByRecursion (Shape W) ps → AllByRecursion (Shape W) (keep v ps)
 unfolding keep
 keep_fits {W} (whole e z) ps f = (record { short = omega arith; aligned = (0, omega arith); low = pow_pos W }, f)
 keep_fits (child l t e b g) ps f = (g, f)
 keep_fits (away l e n) ps f = f
 
-pub part_fits : (W q : ℕ) (rs : List Rule) (f : All (Shape (suc W)) rs) → All (Shape W) (part W q rs f)
+pub part_fits : (W q : ℕ) (rs : List Rule) (f : AllByRecursion (Shape (suc W)) rs) → AllByRecursion (Shape W) (part W q rs f)
 unfolding part
 part_fits W q [] f = tt
 part_fits W q (r ∷ rs) f = keep_fits (view W q r f.0) (part W q rs f.1) (part_fits W q rs f.1)
@@ -165,7 +165,7 @@ keep_at {W} {q} {r} hq (child l t e b f) s a h x ps ih =
     ap₂ (λ (c : Bool) (y : Server). cond c r.server y) m ih
 keep_at {W} {q} {r} hq (away l e n) s a h x ps ih = ap (λ (c : Bool). cond c r.server x) (n a h) ∙ ih
 
-part_at : (W q : ℕ) → q ≤ 1 → (rs : List Rule) (f : All (Shape (suc W)) rs) (s : Server) (a : ℕ) → a < 2 ^ W
+part_at : (W q : ℕ) → q ≤ 1 → (rs : List Rule) (f : AllByRecursion (Shape (suc W)) rs) (s : Server) (a : ℕ) → a < 2 ^ W
     → at (suc W) rs s (q * 2 ^ W + a) ≡ at W (part W q rs f) s a
 unfolding part
 part_at W q hq [] f s a h = refl
@@ -173,7 +173,7 @@ part_at W q hq (r ∷ rs) f s a h =
     keep_at hq (view W q r f.0) s a h (at (suc W) rs s (q * 2 ^ W + a)) (part W q rs f.1) (part_at W q hq rs f.1 s a h)
 
 -- the two halves make the whole
-pub halves : (x : Server) (W : ℕ) (rs : List Rule) (f : All (Shape (suc W)) rs) (s : Server)
+pub halves : (x : Server) (W : ℕ) (rs : List Rule) (f : AllByRecursion (Shape (suc W)) rs) (s : Server)
     → count x (suc W) rs s ≡ count x W (part W 0 rs f) s + count x W (part W 1 rs f) s
 unfolding count
 halves x W rs f s =

@@ -3,7 +3,7 @@ use Rattle.std.proofs.Common.{◌≡◌, ℕ, zero, suc, ◌+◌, ◌-◌, ◌*�
 use mathlib.Core.List.{reverse-append}
 use native.Mathlib.Decide.{dec_le}
 use lib.Pow.{pow-lt}
-use Rattle.std.specs.List.{AllByRecursion as All}
+use Rattle.std.specs.List.{AllByRecursion}
 use Rattle.std.proofs.lemmas.Bool.Decides.{nat_tests}
 use Rattle.std.proofs.lemmas.Bool.{lt-ltb, le-ltb}
 use Rattle.std.proofs.ByRecursion.{All-push, All-weaker}
@@ -56,14 +56,14 @@ end_append u (less j ∷ p) q = end_append (u - 2 ^ j) p q
 -- ---- rules laid down to the place j
 
 pub record Laid (W j u n e : ℕ) (s : Server) (rs : List Rule) (last : ℕ) : Type 0 where
-  pub fits : All (Shape W) rs
+  pub fits : AllByRecursion (Shape W) rs
   pub long : length rs ≡ n
-  pub broad : All (λ r. r.length + j ≤ W) rs
+  pub broad : AllByRecursion (λ r. r.length + j ≤ W) rs
   pub rising : Rising rs
   pub cut : (a : ℕ) → a < 2 ^ W → at W (reverse rs) s a ≡ cond (ltb a e) One Two
   pub ends : last ≡ e
 
-rising_push : (rs : List Rule) (r : Rule) → Rising rs → All (λ q. q.length < r.length) rs → Rising (rs ++ r ∷ [])
+rising_push : (rs : List Rule) (r : Rule) → Rising rs → AllByRecursion (λ q. q.length < r.length) rs → Rising (rs ++ r ∷ [])
 rising_push [] r h k = (tt, tt)
 rising_push (q ∷ rs) r (a, h) (b, k) = (All-push (λ x. q.length < x.length) rs r a b, rising_push rs r h k)
 

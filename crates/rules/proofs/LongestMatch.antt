@@ -1,16 +1,16 @@
 -- Where lengths rise, the first match from the back is the longest match.
 use Rattle.std.proofs.Common.{◌≡◌, ℕ, ◌<◌, ◌≤◌, Bool, true, false, cond, List, [], ◌∷◌, ◌++◌, reverse, Some, None, Option, sym, refl, ap, ◌∙◌, subst, arith}
 use mathlib.Core.List.{reverse-cons}
-use Rattle.std.specs.List.{AllByRecursion as All}
+use Rattle.std.specs.List.{AllByRecursion}
 use Rattle.std.proofs.ByRecursion.{All-push, All-weaker, all-has, has_get_or, has_append_right}
 use Rattle.rules.specs.declared.rule.Rule.{Rule}
 use Rattle.rules.specs.declared.server.Server.{Server}
 use Rattle.rules.specs.Prefixes.{matches, first_match, Longest}
 use Rattle.rules.specs.Tables.{Rising}
 
-pub all_reverse : (P : Rule → Type 0) (rs : List Rule) → All P rs → All P (reverse rs)
+pub all_reverse : (P : Rule → Type 0) (rs : List Rule) → AllByRecursion P rs → AllByRecursion P (reverse rs)
 all_reverse P [] h = tt
-all_reverse P (r ∷ rs) (h, k) = subst (λ (x : List Rule). All P x) (sym (reverse-cons r rs)) (All-push P (reverse rs) r (all_reverse P rs k) h)
+all_reverse P (r ∷ rs) (h, k) = subst (λ (x : List Rule). AllByRecursion P x) (sym (reverse-cons r rs)) (All-push P (reverse rs) r (all_reverse P rs k) h)
 
 -- a rule behind all others decides only where none of them does
 abbrev or_else : Option Server → Option Server → Option Server
@@ -31,13 +31,13 @@ match_behind : (W : ℕ) (q : Rule) (rs : List Rule) (a : ℕ)
 match_behind W q rs a = ap (λ (x : List Rule). first_match W x a) (reverse-cons q rs) ∙ match_append W (reverse rs) (q ∷ []) a
 
 -- what is left without a server matches no rule
-unmatched : (W : ℕ) (rs : List Rule) (a : ℕ) → first_match W (reverse rs) a ≡ None → All (λ q. matches W q a ≡ false) rs
+unmatched : (W : ℕ) (rs : List Rule) (a : ℕ) → first_match W (reverse rs) a ≡ None → AllByRecursion (λ q. matches W q a ≡ false) rs
 unmatched W [] a e = tt
 unmatched W (q ∷ rs) a e = go (first_match W (reverse rs) a) refl (matches W q a) refl (sym (match_behind W q rs a) ∙ e) (unmatched W rs a)
   where
     go : (o : Option Server) → first_match W (reverse rs) a ≡ o → (b : Bool) → matches W q a ≡ b
         → or_else o (cond b (Some q.server) None) ≡ None
-        → (first_match W (reverse rs) a ≡ None → All (λ q. matches W q a ≡ false) rs) → All (λ q. matches W q a ≡ false) (q ∷ rs)
+        → (first_match W (reverse rs) a ≡ None → AllByRecursion (λ q. matches W q a ≡ false) rs) → AllByRecursion (λ q. matches W q a ≡ false) (q ∷ rs)
     go None f false g h ih = (g, ih f)
     go None f true g h ih = let z : ◌≡◌ {A = ℕ} 0 1 = cc in absurd (omega arith)
     go (Some s) f b g h ih = let z : ◌≡◌ {A = ℕ} 0 1 = cc in absurd (omega arith)

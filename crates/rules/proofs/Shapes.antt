@@ -1,7 +1,7 @@
 -- The layout of a rule, taken apart.
 use Rattle.std.proofs.Common.{◌≡◌, ℕ, ◌-◌, ◌*◌, ◌/◌, ◌%◌, ◌^◌, ◌<◌, ◌≤◌, true, ◌&&◌, eqb, ltb, leb, List, [], ◌∷◌, refl, ap, ◌∙◌, arith}
 use native.Mathlib.Nat.{mul-mod_left}
-use Rattle.std.specs.List.{AllByRecursion as All}
+use Rattle.std.specs.List.{AllByRecursion}
 use Rattle.std.proofs.lemmas.Nat.{div-add-mod'}
 use Rattle.std.proofs.lemmas.Bool.{leb-true, ltb-true, eqb-true, le-leb, lt-ltb, eq-eqb, and_parts, and_from}
 use Rattle.rules.specs.declared.rule.Rule.{Rule}
@@ -31,10 +31,10 @@ shape_fits W r s =
     (and_from (ltb r.start (2 ^ W)) (eqb (r.start % 2 ^ (W - r.length)) 0) (lt-ltb r.start (2 ^ W) s.low)
     (eq-eqb (r.start % 2 ^ (W - r.length)) 0 z))
 
-pub shapes : (W : ℕ) (rs : List Rule) → all_fit W rs ≡ true → All (Shape W) rs
+pub shapes : (W : ℕ) (rs : List Rule) → all_fit W rs ≡ true → AllByRecursion (Shape W) rs
 shapes W [] h = tt
 shapes W (r ∷ rs) h = let a = and_parts (fits W r) (all_fit W rs) h in (shape W r a.0, shapes W rs a.1)
 
-pub shapes_fit : (W : ℕ) (rs : List Rule) → All (Shape W) rs → all_fit W rs ≡ true
+pub shapes_fit : (W : ℕ) (rs : List Rule) → AllByRecursion (Shape W) rs → all_fit W rs ≡ true
 shapes_fit W [] h = refl
 shapes_fit W (r ∷ rs) (s, h) = and_from (fits W r) (all_fit W rs) (shape_fits W r s) (shapes_fit W rs h)

@@ -2,7 +2,7 @@
 use Rattle.std.proofs.Common.{◌≡◌, ℕ, zero, suc, ◌+◌, ◌-◌, ◌*◌, ◌^◌, ◌<◌, ◌≤◌, min, Bool, true, false, cond, ltb, leb, List, [], ◌∷◌, ◌++◌, reverse, length, is_some, Some, None, Option, sym, refl, ap, ◌∙◌, subst, arith, pow_pos}
 use mathlib.Core.List.{reverse-cons}
 use native.Mathlib.Decide.{dec_le}
-use Rattle.std.specs.List.{AllByRecursion as All}
+use Rattle.std.specs.List.{AllByRecursion}
 use Rattle.std.proofs.lemmas.Bool.Decides.{nat_tests}
 use Rattle.std.proofs.lemmas.Bool.{lt-ltb, le-ltb}
 use Rattle.std.proofs.ByRecursion.{All-append}
@@ -28,7 +28,7 @@ place (more j) = j
 place (less j) = j
 
 abbrev Low : ℕ → List Term → Type 0
-Low W q = All (λ m. place m < W) q
+Low W q = AllByRecursion (λ m. place m < W) q
 
 term_low : (W j : ℕ) (d : Digit) → j < W → Low W (term j d)
 unfolding place
@@ -41,7 +41,7 @@ terms_low W j [] h = tt
 terms_low W j (d ∷ q) h =
     All-append (λ m. place m < W) (terms (suc j) q) (term j d) (terms_low W (suc j) q (omega arith)) (term_low W j d (omega arith))
 
-low_lengths : (W u : ℕ) (q : List Term) → Low W q → All (λ r. 0 < r.length) (from_below W u q)
+low_lengths : (W u : ℕ) (q : List Term) → Low W q → AllByRecursion (λ r. 0 < r.length) (from_below W u q)
 unfolding from_below place
 low_lengths W u [] h = tt
 low_lengths W u (more j ∷ q) (h, k) = (omega arith, low_lengths W (u + 2 ^ j) q k)
@@ -81,12 +81,12 @@ count_below d (suc N) = go (dec_le d N) (count_below d N)
     go (no h) ih = let l : N < d = omega arith in omega (arith, ih, ap (λ (b : Bool). same (Some One) (Some (cond b One Two))) (lt-ltb N d l))
 
 record Made (W d : ℕ) (rs : List Rule) : Type 0 where
-  fits : All (Shape W) rs
+  fits : AllByRecursion (Shape W) rs
   rising : Rising rs
   long : length rs ≡ L W d
   sends : (a : ℕ) → a < 2 ^ W → first_match W (reverse rs) a ≡ Some (cond (ltb a d) One Two)
 
-made : (W d n : ℕ) (s : Server) (rs : List Rule) (l : ℕ) → Laid W 0 0 n d s rs l → All (λ r. 0 < r.length) rs → 1 + n ≡ L W d → Made W d (all_to s ∷ rs)
+made : (W d n : ℕ) (s : Server) (rs : List Rule) (l : ℕ) → Laid W 0 0 n d s rs l → AllByRecursion (λ r. 0 < r.length) rs → 1 + n ≡ L W d → Made W d (all_to s ∷ rs)
 made W d n s rs l i b h = record {
   fits = (record { short = omega arith; aligned = (0, omega arith); low = pow_pos W }, i.fits);
   rising = (b, i.rising);

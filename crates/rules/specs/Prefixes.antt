@@ -1,6 +1,6 @@
 -- Prefix rules over the addresses below 2 ^ W, and what a list of them does with an address.
 use Rattle.std.specs.Prelude.{◌≡◌, ℕ, zero, suc, ◌+◌, ◌-◌, ◌%◌, ◌^◌, ◌<◌, ◌≤◌, Bool, true, cond, ◌&&◌, List, [], ◌∷◌, is_some, Some, None, Option, ◌==◌, nat_le, nat_lt}
-use Rattle.std.specs.List.{ContainsAt as Has, AllByRecursion as All}
+use Rattle.std.specs.List.{ContainsAt, AllByRecursion}
 use Rattle.rules.specs.declared.rule.Rule.{Rule}
 use Rattle.rules.specs.declared.server.Server.{Server}
 use Rattle.rules.specs.declared.server.Server.TheVariants.{One, Two}
@@ -28,9 +28,9 @@ first_match W (r ∷ rs) a = cond (matches W r a) (Some r.server) (first_match W
 
 -- In a table the longest prefix decides: r is a rule of it that matches a, and none that matches a is longer.
 pub record Longest (W : ℕ) (rs : List Rule) (a : ℕ) (r : Rule) : Type 0 where
-  pub listed : Has rs r
+  pub listed : ContainsAt rs r
   pub hit : matches W r a ≡ true
-  pub longest : All (λ q. matches W q a ≡ true → q.length ≤ r.length) rs
+  pub longest : AllByRecursion (λ q. matches W q a ≡ true → q.length ≤ r.length) rs
 
 -- 1 where the two answers are the same, else 0.
 abbrev pub same : Option Server → Option Server → ℕ

@@ -1,6 +1,6 @@
 -- The table of a weight, in its set order.
 use Rattle.std.specs.Prelude.{◌≡◌, ℕ, suc, ◌+◌, ◌-◌, ◌^◌, ◌<◌, true, cond, List, [], ◌∷◌, ◌++◌, reverse, length, nat_le, nat_lt}
-use Rattle.std.specs.List.{AllByRecursion as All}
+use Rattle.std.specs.List.{AllByRecursion}
 use Rattle.rules.specs.declared.rule.Rule.{Rule}
 use Rattle.rules.specs.declared.server.Server.{Server}
 use Rattle.rules.specs.declared.server.Server.TheVariants.{One, Two}
@@ -52,7 +52,7 @@ table W d =
 -- Each rule's prefix is longer than those before it, so no prefix stands twice.
 abbrev pub Rising : List Rule → Type 0
 Rising [] = Unit {0}
-Rising (r ∷ rs) = All (λ q. r.length < q.length) rs × Rising rs
+Rising (r ∷ rs) = AllByRecursion (λ q. r.length < q.length) rs × Rising rs
 
 -- Server 1 for the addresses below d, server 2 for the others.
 abbrev pub side : ℕ → ℕ → Server

@@ -1,6 +1,6 @@
 -- Words and the numbers that they spell.
 use Rattle.std.proofs.Common.{◌≡◌, ℕ, ◌+◌, ◌^◌, ◌<◌, ◌≤◌, List, [], ◌∷◌, ◌++◌, map, length, get_or, take, drop, Some, None, vec_items, codes, decimal, Option, sym, refl, ap, ◌∙◌, subst, arith, MatchOption}
-use Rattle.std.specs.List.{AllByRecursion as All}
+use Rattle.std.specs.List.{AllByRecursion}
 use Rattle.std.proofs.ByRecursion.{All-get_or}
 use Rattle.std.proofs.lemmas.List.{take_more, map-append, length-map, get_or-map}
 use Rattle.shares.specs.declared.request.Request.{Request}
@@ -41,7 +41,7 @@ spelled_numbers (Table width weight) w ws e = ap tail e
 spelled_numbers (Nearest width target limit) w ws e = ap tail e
 spelled_numbers (Plan width capacity targets) w ws e = ap tail e
 
-small_numbers : (q : Request) → Small q → All (λ n. n < 2 ^ 32) (numbers_of q)
+small_numbers : (q : Request) → Small q → AllByRecursion (λ n. n < 2 ^ 32) (numbers_of q)
 unfolding numbers_of
 small_numbers (Table width weight) (h, k) = (h, (k, tt))
 small_numbers (Nearest width target limit) (h, k, l) = (h, (k, (l, tt)))

@@ -1,6 +1,6 @@
 -- The requests that a command line can spell.
 use Rattle.std.specs.Prelude.{◌≡◌, ℕ, ◌^◌, ◌<◌, List, [], ◌∷◌, map, vec_items, codes, decimal, ◌≢◌}
-use Rattle.std.specs.List.{AllByRecursion as All}
+use Rattle.std.specs.List.{AllByRecursion}
 use Rattle.shares.specs.declared.request.Request.{Request}
 use Rattle.shares.specs.declared.request.Request.TheVariants.{Table, Nearest, Plan}
 
@@ -14,7 +14,7 @@ spelling (Plan width capacity targets) = codes "plan" ∷ decimal width ∷ deci
 abbrev pub Small : Request → Type 0
 Small (Table width weight) = (width < 2 ^ 32) × (weight < 2 ^ 32)
 Small (Nearest width target limit) = (width < 2 ^ 32) × (target < 2 ^ 32) × (limit < 2 ^ 32)
-Small (Plan width capacity targets) = (width < 2 ^ 32) × (capacity < 2 ^ 32) × All (λ n. n < 2 ^ 32) (vec_items targets)
+Small (Plan width capacity targets) = (width < 2 ^ 32) × (capacity < 2 ^ 32) × AllByRecursion (λ n. n < 2 ^ 32) (vec_items targets)
 
 -- The words are those of q; they are those of no request.
 abbrev pub Spelled : List (List ℕ) → Request → Type 0
@@ -28,4 +28,4 @@ abbrev pub Numbers : List (List ℕ) → List ℕ → Type 0
 Numbers words ns = words ≡ map decimal ns
 
 abbrev pub NoNumbers : List (List ℕ) → Type 0
-NoNumbers words = (ns : List ℕ) → All (λ n. n < 2 ^ 32) ns → words ≢ map decimal ns
+NoNumbers words = (ns : List ℕ) → AllByRecursion (λ n. n < 2 ^ 32) ns → words ≢ map decimal ns

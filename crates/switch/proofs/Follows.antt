@@ -1,6 +1,6 @@
 -- Each call, doing what its own contract says, follows the model.
 use Rattle.std.proofs.Common.{◌≡◌, ℕ, zero, suc, ◌+◌, ◌-◌, ◌<◌, ◌≤◌, Bool, true, false, cond, not, ◌&&◌, eqb, ltb, leb, List, [], ◌∷◌, ◌++◌, length, take, drop, is_some, Some, None, Option, sym, refl, ap, ◌∙◌, subst, ap₂, arith}
-use Rattle.std.specs.List.{AllByRecursion as All}
+use Rattle.std.specs.List.{AllByRecursion}
 use Rattle.std.proofs.ByRecursion.{All-drop}
 use Rattle.std.proofs.lemmas.List.{take_all}
 use Rattle.std.proofs.lemmas.Bool.{eqb-false, eq-eqb, ltb-false, lt-leb, and_from, not_from_false}
@@ -155,7 +155,7 @@ module _ (miss : Misses) (W R : ℕ) (ts : List (Option ℕ)) (o : Order) (left 
   next pos =
       let (w, e, f, g) = pick k all (omega (arith, pos, u.sound.phase.1)) in
       let formed-all = writes_formed W A B (plan_A miss W R ts o left u.sound).in_range (plan_B miss W R ts o left u.sound).in_range u.sound.high in
-      (w, e, f, g, (subst (λ (ws : List Write). All (λ x. Formed x) ws) f (All-drop (λ x. Formed x) k all formed-all)).0)
+      (w, e, f, g, (subst (λ (ws : List Write). AllByRecursion (λ x. Formed x) ws) f (All-drop (λ x. Formed x) k all formed-all)).0)
 
   abbrev write_next : Option Write
   write_next = cond (eqb left 0) None (write_at all k)

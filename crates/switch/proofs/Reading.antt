@@ -1,6 +1,6 @@
 -- A listing tells its rules: its lines can be read in one way only.
 use Rattle.std.proofs.Common.{◌≡◌, ℕ, zero, suc, ◌+◌, ◌-◌, ◌*◌, ◌/◌, ◌%◌, ◌^◌, ◌<◌, ◌≤◌, false, List, [], ◌∷◌, ◌++◌, map, length, get_or, take, drop, Some, None, decimal, sum_by, Option, sym, refl, ap, ◌∙◌, subst, ap₂, append_assoc, arith, lit<, pow_mono}
-use Rattle.std.specs.List.{flat_map, AllByRecursion as All}
+use Rattle.std.specs.List.{flat_map, AllByRecursion}
 use Rattle.std.proofs.lemmas.Fmt.{decimal_by_steps, decimal_nonempty, decimal_injective}
 use Rattle.std.proofs.ByRecursion.{All-append, All-map, All-weaker}
 use Rattle.std.proofs.lemmas.List.{append-nil, length-append, length-map, take_at, drop_at, drop-drop}
@@ -24,13 +24,13 @@ use Rattle.switch.proofs.Passes.{map_joined, range}
 abbrev Digit : ℕ → Type 0
 Digit c = (48 ≤ c) × (c < 58)
 
-decimal_digits : (n : ℕ) → n < 2 ^ 64 → All Digit (decimal n)
+decimal_digits : (n : ℕ) → n < 2 ^ 64 → AllByRecursion Digit (decimal n)
 decimal_digits =
-    decimal_by_steps (λ n ds. All Digit ds) (λ n h. ((omega arith, omega arith), tt))
+    decimal_by_steps (λ n ds. AllByRecursion Digit ds) (λ n h. ((omega arith, omega arith), tt))
     (λ n ds h more. All-append Digit ds ((48 + n % 10) ∷ []) more ((omega arith, omega arith), tt))
 
 -- digits end at the first byte below 48
-digits_end : (ds es xs ys : List ℕ) (e : ℕ) → All Digit ds → All Digit es → e < 48 → ds ++ (e ∷ xs) ≡ es ++ (e ∷ ys) → (ds ≡ es) × (xs ≡ ys)
+digits_end : (ds es xs ys : List ℕ) (e : ℕ) → AllByRecursion Digit ds → AllByRecursion Digit es → e < 48 → ds ++ (e ∷ xs) ≡ es ++ (e ∷ ys) → (ds ≡ es) × (xs ≡ ys)
 digits_end [] [] xs ys e a b low same = (refl, let t : xs ≡ ys = cc in t)
 digits_end [] (b ∷ es) xs ys e a h low same = absurd (let z : e ≡ b = cc in omega (arith, h.0.0))
 digits_end (a ∷ ds) [] xs ys e h b low same = absurd (let z : a ≡ e = cc in omega (arith, h.0.0))
@@ -76,7 +76,7 @@ line_read s q xs ys a b same =
     )
 
 -- no line begins as the trailer does
-no_line : (ds xs ys : List ℕ) → All Digit ds → 0 < length ds → 98 ∷ xs ≡ ds ++ ys → ⊥
+no_line : (ds xs ys : List ℕ) → AllByRecursion Digit ds → 0 < length ds → 98 ∷ xs ≡ ds ++ ys → ⊥
 no_line [] xs ys h some same = omega arith
 no_line (d ∷ ds) xs ys h some same = let z : 98 ≡ d = cc in omega (arith, h.0.1)
 
@@ -84,7 +84,7 @@ no_trailer : (s : Standing) (back count : ℕ) (ys : List ℕ) → Small s → t
 unfolding trailer
 no_trailer s back count ys small same = no_line (decimal s.tag) _ _ (decimal_digits s.tag (omega (arith, small.0))) (decimal_nonempty s.tag (omega (arith, small.0))) (same ∙ spelled s ys)
 
-lines_read : (ss qs : List Standing) (b n b' n' : ℕ) → All Small ss → All Small qs → lines ss ++ trailer b n ≡ lines qs ++ trailer b' n' → ss ≡ qs
+lines_read : (ss qs : List Standing) (b n b' n' : ℕ) → AllByRecursion Small ss → AllByRecursion Small qs → lines ss ++ trailer b n ≡ lines qs ++ trailer b' n' → ss ≡ qs
 lines_read [] [] b n b' n' a h same = refl
 lines_read [] (q ∷ qs) b n b' n' a h same = absurd (no_trailer q b n _ h.0 (same ∙ append_assoc (line q) (lines qs) (trailer b' n')))
 lines_read (s ∷ ss) [] b n b' n' a h same = absurd (no_trailer s b' n' _ a.0 (sym same ∙ append_assoc (line s) (lines ss) (trailer b n)))
@@ -96,7 +96,7 @@ lines_read (s ∷ ss) (q ∷ qs) b n b' n' a h same =
 -- ---- the standing rules
 
 module _ (W : ℕ) (ds : List (Option ℕ)) (w : W ≤ 24) (h : InRange W ds) where
-  small_from : (n t : ℕ) → t + n ≤ 64 → All Small (flat_map (standing_of W ds) (from n t))
+  small_from : (n t : ℕ) → t + n ≤ 64 → AllByRecursion Small (flat_map (standing_of W ds) (from n t))
   unfolding from standing_of
   small_from zero t k = tt
   small_from (suc n) t k =
@@ -106,7 +106,7 @@ module _ (W : ℕ) (ds : List (Option ℕ)) (w : W ≤ 24) (h : InRange W ds) wh
       (All-weaker (Shape W) (λ r. Small (under t r)) (λ r s. (omega arith, omega (arith, s.low), omega (arith, s.short))) (table_of W (get_or ds t None)) (all_shapes W ds h t)))
       (small_from n (suc t) (omega arith))
 
-  all_small : All Small (standing W ds)
+  all_small : AllByRecursion Small (standing W ds)
   unfolding standing tags
   all_small = small_from 64 0 (omega arith)
 

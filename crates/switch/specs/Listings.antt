@@ -1,6 +1,6 @@
 -- The listing of the standing rules: a line for each, and a trailer by which a reader finds back to the first line.
 use Rattle.std.specs.Prelude.{◌≡◌, ℕ, ◌+◌, ◌-◌, ◌^◌, ◌<◌, List, [], ◌∷◌, ◌++◌, map, length, take, drop, None, codes, decimal, sum_by, Option, nat_lt, slice_index_or}
-use Rattle.std.specs.List.{flat_map, AllByRecursion as All}
+use Rattle.std.specs.List.{flat_map, AllByRecursion}
 use Rattle.rules.specs.declared.refusal.Refusal.TheVariants.{BufferTooShort}
 use Rattle.rules.specs.declared.rule.Rule.{Rule}
 use Rattle.rules.specs.Refusals.{Ground, ◌when◌}
@@ -70,7 +70,7 @@ Small s = (s.tag < 2 ^ 32) × (s.rule.start < 2 ^ 32) × (s.rule.length < 2 ^ 32
 
 -- The bytes are the lines of just these rules, in this order, and their trailer.
 pub record Lists (bytes : List ℕ) (ss : List Standing) : Type 0 where
-  pub small : All Small ss
+  pub small : AllByRecursion Small ss
   pub text : bytes ≡ text_of ss
 
 -- How many bytes the lines take: the sum of their lengths.

@@ -1,5 +1,5 @@
 use Rattle.std.proofs.Common.{◌≡◌, ◌*◌, ◌<◌, ◌≤◌, List, ◌++◌, length, drop, ap, ◌∙◌, subst, arith}
-use Rattle.std.specs.List.{AllByRecursion as All}
+use Rattle.std.specs.List.{AllByRecursion}
 use Rattle.rules.specs.declared.rule.Rule.{Rule}
 use Rattle.rules.specs.declared.table.Table.{Table}
 use Rattle.rules.specs.Walk.{to_come}
@@ -8,7 +8,7 @@ use Rattle.controller.proofs.Writing.{turn, written_all}
 use Rattle.controller.proofs.tables.write_rules.Goals as goal
 
 pub record_bytes-requires : goal.record_bytes-requires
-record_bytes-requires c = (subst (λ (rs : List Rule). All (λ r. r.length < 256) rs) c.in-Some.ensures.steps c.loop-rule.invariant.0).0
+record_bytes-requires c = (subst (λ (rs : List Rule). AllByRecursion (λ r. r.length < 256) rs) c.in-Some.ensures.steps c.loop-rule.invariant.0).0
 
 pub loop-rule-preserved : goal.loop-rule-preserved
 loop-rule-preserved c =
