@@ -33,7 +33,7 @@ pub fn obey<M: Fitting, E: Measure>(
     measure: &E,
     command: Command,
 ) -> (Console<M>, Result<Reply, Refusal>)
-    ensures { Obeys (E.Measure.miss measure.now) (M.Fitting.most console.memory) command console.running (desk console.register) (view M.Reader M.RuleMemory console.memory) result.1 result.0.running (desk result.0.register) (view M.Reader M.RuleMemory result.0.memory) }
+    ensures { Obeys (E.Measure.miss measure.now) (M.Fitting.most console.memory) command console.running (desk console.register) (view M.Reader.held_at M.Reader.size M.RuleMemory.limit console.memory) result.1 result.0.running (desk result.0.register) (view M.Reader.held_at M.Reader.size M.RuleMemory.limit result.0.memory) }
 {
     let Console {
         mut register,
@@ -58,7 +58,7 @@ fn dispatch<M: Fitting, E: Measure>(
     register: &mut Register,
     memory: &mut M,
 ) -> (Option<State>, Result<Reply, Refusal>)
-    ensures { Obeys (E.Measure.miss measure.now) (M.Fitting.most memory.old) command running (desk register.old) (view M.Reader M.RuleMemory memory.old) result.1 result.0 (desk register.new) (view M.Reader M.RuleMemory memory.new) }
+    ensures { Obeys (E.Measure.miss measure.now) (M.Fitting.most memory.old) command running (desk register.old) (view M.Reader.held_at M.Reader.size M.RuleMemory.limit memory.old) result.1 result.0 (desk register.new) (view M.Reader.held_at M.Reader.size M.RuleMemory.limit memory.new) }
 {
     match command {
         Command::Make { width, capacity } => make_anew(

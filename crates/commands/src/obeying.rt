@@ -29,7 +29,7 @@ pub(crate) fn make_anew<M: Fitting, E: Measure>(
     register: &mut Register,
     memory: &mut M,
 ) -> (Option<State>, Result<Reply, Refusal>)
-    ensures { Obeys (E.Measure.miss measure.now) (M.Fitting.most memory.old) (Make width capacity) running (desk register.old) (view M.Reader M.RuleMemory memory.old) result.1 result.0 (desk register.new) (view M.Reader M.RuleMemory memory.new) }
+    ensures { Obeys (E.Measure.miss measure.now) (M.Fitting.most memory.old) (Make width capacity) running (desk register.old) (view M.Reader.held_at M.Reader.size M.RuleMemory.limit memory.old) result.1 result.0 (desk register.new) (view M.Reader.held_at M.Reader.size M.RuleMemory.limit memory.new) }
 {
     match refit_and_make(width, capacity, register, memory) {
         Ok(state) => {
@@ -55,7 +55,7 @@ fn refit_and_make<M: Fitting>(
     register: &mut Register,
     memory: &mut M,
 ) -> Result<State, Refusal>
-    ensures { Made (M.Fitting.most memory.old) width capacity (desk register.old) (desk register.new) (view M.Reader M.RuleMemory memory.old) (view M.Reader M.RuleMemory memory.new) result }
+    ensures { Made (M.Fitting.most memory.old) width capacity (desk register.old) (desk register.new) (view M.Reader.held_at M.Reader.size M.RuleMemory.limit memory.old) (view M.Reader.held_at M.Reader.size M.RuleMemory.limit memory.new) result }
 {
     if capacity > memory.ceiling() {
         return Err(Refusal::AboveCeiling);
@@ -74,7 +74,7 @@ pub(crate) fn place<M: RuleMemory, E: Measure>(
     register: &mut Register,
     memory: &mut M,
 ) -> (Option<State>, Result<Reply, Refusal>)
-    ensures { (ceiling : ℕ) → Obeys (E.Measure.miss measure.now) ceiling (Place order) running (desk register.old) (view M.Reader M.RuleMemory memory.old) result.1 result.0 (desk register.new) (view M.Reader M.RuleMemory memory.new) }
+    ensures { (ceiling : ℕ) → Obeys (E.Measure.miss measure.now) ceiling (Place order) running (desk register.old) (view M.Reader.held_at M.Reader.size M.RuleMemory.limit memory.old) result.1 result.0 (desk register.new) (view M.Reader.held_at M.Reader.size M.RuleMemory.limit memory.new) }
 {
     match running {
         Some(State::Resting(resting)) => match settle(resting, order, measure, register, memory) {
@@ -110,7 +110,7 @@ pub(crate) fn see<M: RuleMemory, E: Measure>(
     register: &Register,
     memory: &M,
 ) -> (Option<State>, Result<Reply, Refusal>)
-    ensures { (ceiling : ℕ) → Obeys (E.Measure.miss measure.now) ceiling (Look tag address) running (desk register.now) (view M.Reader M.RuleMemory memory.now) result.1 result.0 (desk register.now) (view M.Reader M.RuleMemory memory.now) }
+    ensures { (ceiling : ℕ) → Obeys (E.Measure.miss measure.now) ceiling (Look tag address) running (desk register.now) (view M.Reader.held_at M.Reader.size M.RuleMemory.limit memory.now) result.1 result.0 (desk register.now) (view M.Reader.held_at M.Reader.size M.RuleMemory.limit memory.now) }
 {
     match running {
         Some(state) => match look(register, memory, tag, address) {

@@ -22,7 +22,7 @@ pub fn settle<M: RuleMemory, E: Measure>(
     register: &mut Register,
     memory: &mut M,
 ) -> Result<(Resting, Forecast), Refused<State>>
-    ensures { Settled (E.Measure.miss measure.now) order resting (desk register.old) (desk register.new) (view M.Reader M.RuleMemory memory.old) (view M.Reader M.RuleMemory memory.new) result }
+    ensures { Settled (E.Measure.miss measure.now) order resting (desk register.old) (desk register.new) (view M.Reader.held_at M.Reader.size M.RuleMemory.limit memory.old) (view M.Reader.held_at M.Reader.size M.RuleMemory.limit memory.new) result }
 {
     let draft = place_order(resting, order, measure, register)?;
     let forecast = draft.forecast();
@@ -38,7 +38,7 @@ fn take_steps<M: RuleMemory>(
     register: &mut Register,
     memory: &mut M,
 ) -> Result<Changing, Refused<Changing>>
-    ensures { AllStepped steps changing (desk register.old) (desk register.new) (view M.Reader M.RuleMemory memory.old) (view M.Reader M.RuleMemory memory.new) result }
+    ensures { AllStepped steps changing (desk register.old) (desk register.new) (view M.Reader.held_at M.Reader.size M.RuleMemory.limit memory.old) (view M.Reader.held_at M.Reader.size M.RuleMemory.limit memory.new) result }
 {
     for _taken in 0..steps {
         changing = step(changing, register, memory)?;

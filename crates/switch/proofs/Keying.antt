@@ -39,17 +39,6 @@ fit_at W ds i h = weight_at W ds i (none_above (2 ^ W) ds h)
 
 -- ---- a prefix sought in a table
 
--- two prefixes that differ, as a test of equality leaves them
-pub differ : (p q : Prefix) → ((Decides false (p.value ≡ q.value) → ⊥) → (Decides false (p.length ≡ q.length) → ⊥) → ⊥) → same_prefix p q.value q.length ≡ false
-differ p q h = go (same_prefix p q.value q.length) refl
-  where
-    go : (b : Bool) → same_prefix p q.value q.length ≡ b → b ≡ false
-    go true e =
-        let v : p.value ≡ q.value = grind (arith, nat_tests) in
-        let l : p.length ≡ q.length = grind (arith, nat_tests) in
-        absurd (h (λ other. not_from_Decides false other refl v) (λ other. not_from_Decides false other refl l))
-    go false e = refl
-
 -- it is sought on behind a rule that has another
 pub sought_on : (W t : ℕ) (rs more : List Rule) (r : Rule) (k : KeyRule) (p : Prefix) → rs ≡ r ∷ more → k ≡ keyed W t r → same_prefix k.prefix p.value p.length ≡ false
     → at (listed (map (keyed W t) rs)) p ≡ at (listed (map (keyed W t) more)) p

@@ -1,8 +1,6 @@
 -- The numbers of a register, and what a call may know of a rule memory.
 use Rattle.std.specs.Prelude.{ℕ, List, Some, None, Option}
 use Rattle.memory.specs.Holding.{Held}
-use Rattle.memory.specs.declared.reader.Reader as reader
-use Rattle.memory.specs.declared.rule_memory.RuleMemory as rule-memory
 use Rattle.plan.specs.ByTag.{on}
 use Rattle.model.specs.declared.order.Order.{Order}
 use Rattle.switch.specs.declared.change.Change.{Change}
@@ -38,5 +36,5 @@ pub record View : Type 0 where
   pub size : ℕ
   pub limit : ℕ
 
-abbrev pub view : {X : Type 0} → reader.Ghosts X → rule-memory.Ghosts X → X → View
-view r m x = record { held = r.held_at x; size = r.size x; limit = m.limit x }
+abbrev pub view : {X : Type 0} → (X → Held) → (X → ℕ) → (X → ℕ) → X → View
+view held size limit x = record { held = held x; size = size x; limit = limit x }

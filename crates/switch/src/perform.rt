@@ -24,7 +24,7 @@ pub(crate) fn perform<M: RuleMemory, E: Measure>(
     register: &mut Register,
     memory: &mut M,
 ) -> (State, Answer)
-    ensures { Carries (E.Measure.miss measure.now) call state (desk register.old) (view M.Reader M.RuleMemory memory.old) result.1 result.0 (desk register.new) (view M.Reader M.RuleMemory memory.new) }
+    ensures { Carries (E.Measure.miss measure.now) call state (desk register.old) (view M.Reader.held_at M.Reader.size M.RuleMemory.limit memory.old) result.1 result.0 (desk register.new) (view M.Reader.held_at M.Reader.size M.RuleMemory.limit memory.new) }
 {
     match call {
         Call::Place(order) => on_place(state, order, measure, register),
@@ -98,7 +98,7 @@ fn on_step<M: RuleMemory, E: Measure>(
     register: &mut Register,
     memory: &mut M,
 ) -> (State, Answer)
-    ensures { Carries (E.Measure.miss measure.now) Step state (desk register.old) (view M.Reader M.RuleMemory memory.old) result.1 result.0 (desk register.new) (view M.Reader M.RuleMemory memory.new) }
+    ensures { Carries (E.Measure.miss measure.now) Step state (desk register.old) (view M.Reader.held_at M.Reader.size M.RuleMemory.limit memory.old) result.1 result.0 (desk register.new) (view M.Reader.held_at M.Reader.size M.RuleMemory.limit memory.new) }
 {
     match state {
         State::Changing(changing) => match step(changing, register, memory) {
@@ -137,7 +137,7 @@ fn on_look<M: RuleMemory, E: Measure>(
     register: &Register,
     memory: &M,
 ) -> (State, Answer)
-    ensures { Carries (E.Measure.miss measure.now) (Look tag address) state (desk register.now) (view M.Reader M.RuleMemory memory.now) result.1 result.0 (desk register.now) (view M.Reader M.RuleMemory memory.now) }
+    ensures { Carries (E.Measure.miss measure.now) (Look tag address) state (desk register.now) (view M.Reader.held_at M.Reader.size M.RuleMemory.limit memory.now) result.1 result.0 (desk register.now) (view M.Reader.held_at M.Reader.size M.RuleMemory.limit memory.now) }
 {
     match look(register, memory, tag, address) {
         Ok(server) => (state, Answer::Seen(server)),

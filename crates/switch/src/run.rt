@@ -26,7 +26,7 @@ pub fn run<M: RuleMemory, E: Measure>(
     calls: &[Call],
     answers: &mut [Answer],
 ) -> Result<State, Refusal>
-    ensures { Ran (E.Measure.miss measure.now) width calls.now answers.old answers.new (desk register.old) (desk register.new) (view M.Reader M.RuleMemory memory.old) (view M.Reader M.RuleMemory memory.new) result }
+    ensures { Ran (E.Measure.miss measure.now) width calls.now answers.old answers.new (desk register.old) (desk register.new) (view M.Reader.held_at M.Reader.size M.RuleMemory.limit memory.old) (view M.Reader.held_at M.Reader.size M.RuleMemory.limit memory.new) result }
 {
     if answers.len() < calls.len() {
         return Err(Refusal::BufferTooShort);
@@ -56,9 +56,9 @@ pub fn run_two<M: RuleMemory, N: RuleMemory, E: Measure>(
     right_calls: &[Call],
     right_answers: &mut [Answer],
 ) -> (Result<State, Refusal>, Result<State, Refusal>)
-    ensures left { Ran (E.Measure.miss measure.now) width left_calls.now left_answers.old left_answers.new (desk left_register.old) (desk left_register.new) (view M.Reader M.RuleMemory left_memory.old) (view M.Reader M.RuleMemory left_memory.new) result.0 }
-    ensures right { Ran (E.Measure.miss measure.now) width right_calls.now right_answers.old right_answers.new (desk right_register.old) (desk right_register.new) (view N.Reader N.RuleMemory right_memory.old) (view N.Reader N.RuleMemory right_memory.new) result.1 }
-    ensures alike { EndAlike (E.Measure.miss measure.now) width left_calls.now (view M.Reader M.RuleMemory left_memory.old) (view M.Reader M.RuleMemory left_memory.new) right_calls.now (view N.Reader N.RuleMemory right_memory.old) (view N.Reader N.RuleMemory right_memory.new) result.0 result.1 }
+    ensures left { Ran (E.Measure.miss measure.now) width left_calls.now left_answers.old left_answers.new (desk left_register.old) (desk left_register.new) (view M.Reader.held_at M.Reader.size M.RuleMemory.limit left_memory.old) (view M.Reader.held_at M.Reader.size M.RuleMemory.limit left_memory.new) result.0 }
+    ensures right { Ran (E.Measure.miss measure.now) width right_calls.now right_answers.old right_answers.new (desk right_register.old) (desk right_register.new) (view N.Reader.held_at N.Reader.size N.RuleMemory.limit right_memory.old) (view N.Reader.held_at N.Reader.size N.RuleMemory.limit right_memory.new) result.1 }
+    ensures alike { EndAlike (E.Measure.miss measure.now) width left_calls.now (view M.Reader.held_at M.Reader.size M.RuleMemory.limit left_memory.old) (view M.Reader.held_at M.Reader.size M.RuleMemory.limit left_memory.new) right_calls.now (view N.Reader.held_at N.Reader.size N.RuleMemory.limit right_memory.old) (view N.Reader.held_at N.Reader.size N.RuleMemory.limit right_memory.new) result.0 result.1 }
 {
     let left = run(
         measure,
@@ -89,7 +89,7 @@ fn carry_on<M: RuleMemory, E: Measure>(
     answers: &mut [Answer],
 ) -> State
     requires { length calls.now ≤ length answers.old }
-    ensures followed { (m : Model) → Kept (E.Measure.miss measure.now) m state (desk register.old) (view M.Reader M.RuleMemory memory.old) → Followed (E.Measure.miss measure.now) m calls.now (take (length calls.now) answers.new) result (desk register.new) (view M.Reader M.RuleMemory memory.new) }
+    ensures followed { (m : Model) → Kept (E.Measure.miss measure.now) m state (desk register.old) (view M.Reader.held_at M.Reader.size M.RuleMemory.limit memory.old) → Followed (E.Measure.miss measure.now) m calls.now (take (length calls.now) answers.new) result (desk register.new) (view M.Reader.held_at M.Reader.size M.RuleMemory.limit memory.new) }
     ensures behind { drop (length calls.now) answers.new ≡ drop (length calls.now) answers.old }
 {
     for (i, call) in calls.iter().enumerate() {

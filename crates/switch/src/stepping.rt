@@ -21,9 +21,9 @@ pub fn step<M: RuleMemory>(
     register: &mut Register,
     memory: &mut M,
 ) -> Result<Changing, Refused<Changing>>
-    ensures refused { refusal_of result ≡ step_refusal (desk register.old) (view M.Reader M.RuleMemory memory.old) }
-    ensures register { desk register.new ≡ step_desk (desk register.old) (view M.Reader M.RuleMemory memory.old) }
-    ensures held { (v l : ℕ) → M.Reader.held_at memory.new v l ≡ step_held (desk register.old) (view M.Reader M.RuleMemory memory.old) v l }
+    ensures refused { refusal_of result ≡ step_refusal (desk register.old) (view M.Reader.held_at M.Reader.size M.RuleMemory.limit memory.old) }
+    ensures register { desk register.new ≡ step_desk (desk register.old) (view M.Reader.held_at M.Reader.size M.RuleMemory.limit memory.old) }
+    ensures held { (v l : ℕ) → M.Reader.held_at memory.new v l ≡ step_held (desk register.old) (view M.Reader.held_at M.Reader.size M.RuleMemory.limit memory.old) v l }
     ensures limit { M.RuleMemory.limit memory.new ≡ M.RuleMemory.limit memory.old }
     ensures state { MatchResult result (λ c. c ≡ changing) (λ e. e.state ≡ changing) }
 {
@@ -37,9 +37,9 @@ pub fn step<M: RuleMemory>(
 }
 
 fn advance<M: RuleMemory>(register: &mut Register, memory: &mut M) -> Result<(), Refusal>
-    ensures refused { refusal result ≡ step_refusal (desk register.old) (view M.Reader M.RuleMemory memory.old) }
-    ensures register { desk register.new ≡ step_desk (desk register.old) (view M.Reader M.RuleMemory memory.old) }
-    ensures held { (v l : ℕ) → M.Reader.held_at memory.new v l ≡ step_held (desk register.old) (view M.Reader M.RuleMemory memory.old) v l }
+    ensures refused { refusal result ≡ step_refusal (desk register.old) (view M.Reader.held_at M.Reader.size M.RuleMemory.limit memory.old) }
+    ensures register { desk register.new ≡ step_desk (desk register.old) (view M.Reader.held_at M.Reader.size M.RuleMemory.limit memory.old) }
+    ensures held { (v l : ℕ) → M.Reader.held_at memory.new v l ≡ step_held (desk register.old) (view M.Reader.held_at M.Reader.size M.RuleMemory.limit memory.old) v l }
     ensures limit { M.RuleMemory.limit memory.new ≡ M.RuleMemory.limit memory.old }
 {
     let Some(change) = register.change else {
@@ -84,8 +84,8 @@ fn one_done(change: Change) -> Change
 
 // Writes one rule, and takes a prefix with nothing at it for a fault.
 fn carry_out<M: RuleMemory>(memory: &mut M, write: Write) -> Result<(), Refusal>
-    ensures refused { refusal result ≡ first (write_grounds (view M.Reader M.RuleMemory memory.old) write) }
-    ensures held { (v l : ℕ) → M.Reader.held_at memory.new v l ≡ write_held (view M.Reader M.RuleMemory memory.old) write v l }
+    ensures refused { refusal result ≡ first (write_grounds (view M.Reader.held_at M.Reader.size M.RuleMemory.limit memory.old) write) }
+    ensures held { (v l : ℕ) → M.Reader.held_at memory.new v l ≡ write_held (view M.Reader.held_at M.Reader.size M.RuleMemory.limit memory.old) write v l }
     ensures limit { M.RuleMemory.limit memory.new ≡ M.RuleMemory.limit memory.old }
 {
     match write {

@@ -7,11 +7,11 @@ use Rattle.commands.proofs.obey.dispatch.Goals as goal
 pub returns-in-Place : goal.returns-in-Place
 returns-in-Place g c =
     subst (λ (k : Command). Obeys (g.E.Measure.miss c.args.measure.now) (g.M.Fitting.most c.args.memory.now) k c.args.running
-    (desk c.args.register.now) (view g.M.Reader g.M.RuleMemory c.args.memory.now) c.place.result.1 c.place.result.0 (desk c.place.new.register) (view g.M.Reader g.M.RuleMemory c.place.new.memory))
+    (desk c.args.register.now) (view g.M.Reader.held_at g.M.Reader.size g.M.RuleMemory.limit c.args.memory.now) c.place.result.1 c.place.result.0 (desk c.place.new.register) (view g.M.Reader.held_at g.M.Reader.size g.M.RuleMemory.limit c.place.new.memory))
     (sym c.in-Place.is) (c.place.ensures (g.M.Fitting.most c.args.memory.now))
 
 pub returns-in-Look : goal.returns-in-Look
 returns-in-Look g c =
     subst (λ (k : Command). Obeys (g.E.Measure.miss c.args.measure.now) (g.M.Fitting.most c.args.memory.now) k c.args.running
-    (desk c.args.register.now) (view g.M.Reader g.M.RuleMemory c.args.memory.now) c.see.result.1 c.see.result.0 (desk c.args.register.now) (view g.M.Reader g.M.RuleMemory c.args.memory.now))
+    (desk c.args.register.now) (view g.M.Reader.held_at g.M.Reader.size g.M.RuleMemory.limit c.args.memory.now) c.see.result.1 c.see.result.0 (desk c.args.register.now) (view g.M.Reader.held_at g.M.Reader.size g.M.RuleMemory.limit c.args.memory.now))
     (sym c.in-Look.is) (c.see.ensures (g.M.Fitting.most c.args.memory.now))

@@ -9,8 +9,8 @@ use Rattle.commands.proofs.obeying.refit_and_make.Goals as goal
 pub returns : goal.returns
 returns g c =
     let d : Desk = desk c.args.register.now in
-    let v : View = view g.M.Reader g.M.RuleMemory c.args.memory.now in
-    let v' : View = view g.M.Reader g.M.RuleMemory c.refit.new.self in
+    let v : View = view g.M.Reader.held_at g.M.Reader.size g.M.RuleMemory.limit c.args.memory.now in
+    let v' : View = view g.M.Reader.held_at g.M.Reader.size g.M.RuleMemory.limit c.refit.new.self in
     let fitted = c.in_ok-refit.ensures.fitted in
     let done = c.in_ok-resting.ensures in
     begins (g.M.Fitting.most c.args.memory.now) c.args.width c.args.capacity d (desk c.make.new.register) v v' c.in_ok-resting.resting

@@ -15,8 +15,8 @@ loop-i-preserved g c =
       omega arith,
       λ m h.
           one_more miss c.args.calls.now c.loop-i.i _ c.perform-next.result.1
-          (λ x. Kept miss x c.loop-i.state (desk c.loop-i.register) (view g.M.Reader g.M.RuleMemory c.loop-i.memory))
-          (λ x. Kept miss x c.perform-next.result.0 (desk c.perform-next.new.register) (view g.M.Reader g.M.RuleMemory c.perform-next.new.memory))
+          (λ x. Kept miss x c.loop-i.state (desk c.loop-i.register) (view g.M.Reader.held_at g.M.Reader.size g.M.RuleMemory.limit c.loop-i.memory))
+          (λ x. Kept miss x c.perform-next.result.0 (desk c.perform-next.new.register) (view g.M.Reader.held_at g.M.Reader.size g.M.RuleMemory.limit c.perform-next.new.memory))
           within (λ x k. let d = c.perform-next.ensures x k in (d.answered, d.kept)) c.loop-i.answers room m (inv.1 m h),
       drop-set-lt (length c.args.calls.now) c.loop-i.answers c.loop-i.i c.perform-next.result.1 within ∙ inv.2,
     )
@@ -27,7 +27,7 @@ returns g c =
     record {
       followed = λ m h.
           let (k, a) = ended miss c.args.calls.now c.loop-i.answers c.loop-i.i
-          (λ x. Kept miss x c.loop-i.state (desk c.loop-i.register) (view g.M.Reader g.M.RuleMemory c.loop-i.memory)) m
+          (λ x. Kept miss x c.loop-i.state (desk c.loop-i.register) (view g.M.Reader.held_at g.M.Reader.size g.M.RuleMemory.limit c.loop-i.memory)) m
           c.loop-i-test.false c.loop-i.invariant.0 (c.loop-i.invariant.1 m h) in
           record { answers_are = a; kept = k };
       behind = c.loop-i.invariant.2;

@@ -9,7 +9,7 @@ abbrev pub invariant-loop-i : goal.invariant-loop-i
 invariant-loop-i g l =
     let miss = g.E.Measure.miss l.measure in
     (l.i ≤ length l.calls)
-    × ((m : Model) → Kept miss m l.initial.state (desk l.initial.register) (view g.M.Reader g.M.RuleMemory l.initial.memory)
-    → Kept miss (model_after miss m (take l.i l.calls)) l.state (desk l.register) (view g.M.Reader g.M.RuleMemory l.memory)
+    × ((m : Model) → Kept miss m l.initial.state (desk l.initial.register) (view g.M.Reader.held_at g.M.Reader.size g.M.RuleMemory.limit l.initial.memory)
+    → Kept miss (model_after miss m (take l.i l.calls)) l.state (desk l.register) (view g.M.Reader.held_at g.M.Reader.size g.M.RuleMemory.limit l.memory)
     × (take l.i l.answers ≡ model_answers miss m (take l.i l.calls)))
     × (drop (length l.calls) l.answers ≡ drop (length l.calls) l.initial.answers)

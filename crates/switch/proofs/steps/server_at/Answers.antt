@@ -1,6 +1,6 @@
 use Rattle.std.proofs.Common.{sym, ◌∙◌}
 use Rattle.rules.specs.Walk.{to_come}
-use Rattle.switch.proofs.Keying.{fit_behind, differ, sought_on}
+use Rattle.switch.proofs.Keying.{fit_behind, sought_on}
 use Rattle.switch.proofs.steps.server_at.Goals as goal
 
 pub loop-rule-preserved : goal.loop-rule-preserved
@@ -8,7 +8,7 @@ loop-rule-preserved c =
     let rs = to_come c.loop-rule.rule-iterator in
     let more = to_come c.next.new.self in
     let one = c.in-Some-rule.ensures.steps in
-    let other = differ c.key_rule-rule.result.prefix c.args.prefix c.if-eq.ensures in (
+    let other = sym c.if-eq.ensures in (
       fit_behind c.args.width.bits rs more c.in-Some-rule.rule one c.loop-rule.invariant.0,
       sym (sought_on c.args.width.bits c.args.tag rs more c.in-Some-rule.rule c.key_rule-rule.result c.args.prefix one c.key_rule-rule.ensures other) ∙ c.loop-rule.invariant.1,
     )
