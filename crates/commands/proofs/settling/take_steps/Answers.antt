@@ -8,8 +8,8 @@ use Rattle.commands.proofs.settling.take_steps.Goals as goal
 
 pub loop-taken-preserved : goal.loop-taken-preserved
 loop-taken-preserved g c = λ miss W R ts o h.
-    let left : ℕ = c.args.steps - c.loop-taken.-taken in
-    let one : left - 1 ≡ c.args.steps - (c.loop-taken.-taken + 1) = omega arith in
+    let left : ℕ = c.args.steps - c.loop-taken._taken in
+    let one : left - 1 ≡ c.args.steps - (c.loop-taken._taken + 1) = omega arith in
     let pos : 0 < left = omega (arith, c.loop-taken-test.true) in
     let d : Desk = desk c.loop-taken.register in
     let d' : Desk = desk c.step.new.register in
@@ -21,7 +21,7 @@ loop-taken-preserved g c = λ miss W R ts o h.
 
 pub returns-in_err-changing : goal.returns-in_err-changing
 returns-in_err-changing g c = λ miss W R ts o h.
-    let left : ℕ = c.args.steps - c.loop-taken.-taken in
+    let left : ℕ = c.args.steps - c.loop-taken._taken in
     let pos : 0 < left = omega (arith, c.loop-taken-test.true) in
     let d : Desk = desk c.loop-taken.register in
     let d' : Desk = desk c.step.new.register in
@@ -32,6 +32,6 @@ returns-in_err-changing g c = λ miss W R ts o h.
 
 pub returns : goal.returns
 returns g c = λ miss W R ts o h.
-    let none : c.args.steps - c.loop-taken.-taken ≡ 0 = omega (arith, c.loop-taken-test.false) in
+    let none : c.args.steps - c.loop-taken._taken ≡ 0 = omega (arith, c.loop-taken-test.false) in
     subst (λ (n : ℕ). Kept miss (model W R ts (changing o n)) (state.Changing c.loop-taken.changing) (desk c.loop-taken.register) (view g.M.Reader.held_at g.M.Reader.size g.M.RuleMemory.limit c.loop-taken.memory))
     none (c.loop-taken.invariant miss W R ts o h)

@@ -11,4 +11,4 @@ abbrev pub invariant-loop-taken : goal.invariant-loop-taken
 invariant-loop-taken g l =
     (miss : Misses) (W R : ℕ) (ts : List (Option ℕ)) (o : Order)
     → Kept miss (model W R ts (changing o l.steps)) (state.Changing l.initial.changing) (desk l.initial.register) (view g.M.Reader.held_at g.M.Reader.size g.M.RuleMemory.limit l.initial.memory)
-    → Kept miss (model W R ts (changing o (l.steps - l.-taken))) (state.Changing l.changing) (desk l.register) (view g.M.Reader.held_at g.M.Reader.size g.M.RuleMemory.limit l.memory)
+    → Kept miss (model W R ts (changing o (l.steps - l._taken))) (state.Changing l.changing) (desk l.register) (view g.M.Reader.held_at g.M.Reader.size g.M.RuleMemory.limit l.memory)
