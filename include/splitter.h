@@ -28,7 +28,7 @@
  * THREADS. The calls have no state of their own, take no lock and read nothing but their arguments, so any number of threads may call at once; only a
  * buffer that splitter_table writes must not be in use elsewhere during the call.
  *
- * Link libcontroller.a, which `rt staticlib controller` makes.
+ * Link libcontroller.a, which `rt lib` makes in crates/controller/out.
  */
 #ifndef SPLITTER_H
 #define SPLITTER_H

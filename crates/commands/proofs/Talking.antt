@@ -1,10 +1,9 @@
 -- What a console's commands do is what the model says.
-use Rattle.std.proofs.Common.{◌≡◌, ℕ, ◌≤◌, Bool, cond, ltb, List, Some, None, Ok, Err, Option, Result, sym, refl, ap, ◌∙◌, subst, ap₂, arith}
-use Rattle.std.proofs.lemmas.Bool.{cond-false, le-ltb, or_parts, ltb-false}
+use Rattle.std.proofs.Common.{◌≡◌, ℕ, ◌≤◌, ltb, Some, None, Ok, Option, sym, refl, ap, ◌∙◌, subst}
+use Rattle.std.proofs.lemmas.Bool.{cond-false, le-ltb}
 use Rattle.rules.specs.declared.refusal.Refusal.{Refusal}
-use Rattle.rules.specs.declared.refusal.Refusal.TheVariants.{WidthOutOfRange}
 use Rattle.rules.specs.declared.server.Server.{Server}
-use Rattle.rules.specs.Grounds.{bad_width, width_grounds}
+use Rattle.rules.specs.Grounds.{width_grounds}
 use Rattle.rules.specs.Refusals.{first}
 use Rattle.memory.specs.Holding.{Counted}
 use Rattle.memory.specs.Looks.{longest}
@@ -13,7 +12,6 @@ use Rattle.model.specs.Grounds.{look_grounds, making_grounds}
 use Rattle.model.specs.Keyed.{key}
 use Rattle.model.specs.Models.{Model, made, kept_if, model_contents}
 use Rattle.model.proofs.Changing.{same_looks}
-use Rattle.model.proofs.Orders.{past}
 use Rattle.switch.specs.declared.state.Resting.{Resting}
 use Rattle.switch.specs.declared.state.State.{State}
 use Rattle.switch.specs.declared.state.State.TheVariants as state
@@ -21,10 +19,9 @@ use Rattle.switch.specs.Calls.{fresh}
 use Rattle.switch.specs.Desks.{Desk, View}
 use Rattle.switch.proofs.Running.{start_kept, admits}
 use Rattle.commands.specs.declared.command.Command.TheVariants.{Make, Look}
-use Rattle.commands.specs.declared.reply.Reply.{Reply}
 use Rattle.commands.specs.declared.reply.Reply.TheVariants.{Settled, Seen}
-use Rattle.commands.specs.Agreed.{AtRest, Agrees, Obeyed, Made}
-use Rattle.commands.specs.Talks.{make_grounds, unless}
+use Rattle.commands.specs.Agreed.{Agrees, Obeyed, Made}
+use Rattle.commands.specs.Talks.{unless}
 
 -- An accepted look.
 pub seen_agrees : (miss : Misses) (ceiling tag address : ℕ) (s : State) (d : Desk) (v : View) (x : Option Server) → None ≡ first (look_grounds d.width tag address)

@@ -1,28 +1,26 @@
 -- Each call on the way to rest, from agreement with the model: it is not refused, or the order is.
-use Rattle.std.proofs.Common.{◌≡◌, ℕ, ◌-◌, ◌<◌, Bool, true, false, cond, eqb, ltb, List, length, Some, None, Ok, Err, Option, Result, sym, refl, ap, ◌∙◌, subst, arith, MatchResult}
+use Rattle.std.proofs.Common.{◌≡◌, ℕ, ◌-◌, ◌<◌, Bool, false, cond, eqb, List, length, Some, None, Ok, Err, Option, sym, refl, ap, ◌∙◌, subst, arith}
 use Rattle.std.proofs.lemmas.Bool.{ne_eqb}
 use Rattle.rules.specs.declared.refusal.Refusal.{Refusal}
 use Rattle.rules.specs.declared.refusal.Refusal.TheVariants.{StepsMismatch}
 use Rattle.rules.specs.Refusals.{first}
 use Rattle.memory.specs.Holding.{Counted}
 use Rattle.plan.specs.Measures.{Misses}
-use Rattle.model.specs.declared.answer.Answer.{Answer}
 use Rattle.model.specs.declared.answer.Answer.TheVariants.{Done, Drafted, Refused}
 use Rattle.model.specs.declared.answer.Forecast.{Forecast}
-use Rattle.model.specs.declared.call.Call.TheVariants.{Place, Accept, Step, Close}
+use Rattle.model.specs.declared.call.Call.TheVariants.{Place}
 use Rattle.model.specs.declared.order.Order.{Order}
 use Rattle.model.specs.Grounds.{order_grounds}
-use Rattle.model.specs.Models.{at_rest, drafted, changing, Model, model, coming, order_steps, forecast, unless, kept_if}
+use Rattle.model.specs.Models.{at_rest, drafted, changing, model, coming, order_steps, forecast, unless, kept_if}
 use Rattle.switch.specs.declared.state.Changing.{Changing}
 use Rattle.switch.specs.declared.state.Draft.{Draft}
 use Rattle.switch.specs.declared.state.Refused as refused
 use Rattle.switch.specs.declared.state.Resting.{Resting}
-use Rattle.switch.specs.declared.state.State.{State}
 use Rattle.switch.specs.declared.state.State.TheVariants as state
-use Rattle.switch.specs.Calls.{refusal_of, place_grounds, forecast_of, accept_grounds, accept_desk, step_refusal, step_desk, step_held, close_refusal, close_desk}
+use Rattle.switch.specs.Calls.{place_grounds, forecast_of, accept_grounds, accept_desk, step_refusal, step_desk, step_held, close_refusal, close_desk}
 use Rattle.switch.specs.Desks.{Desk, View}
 use Rattle.switch.specs.Kept.{Kept, Did}
-use Rattle.switch.proofs.Carrying.{done_answer, state_after, placed, accepted, stepped, closed_by}
+use Rattle.switch.proofs.Carrying.{placed, accepted, stepped, closed_by}
 
 refused_done : {why : Refusal} → Refused why ≡ Done → ⊥
 refused_done e = let z : ◌≡◌ {A = ℕ} 0 1 = cc in omega arith

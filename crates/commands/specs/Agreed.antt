@@ -1,5 +1,5 @@
 -- How a console agrees with the model of its conversation.
-use Rattle.std.specs.Prelude.{◌≡◌, ℕ, List, IfOk, IfErr, Some, None, Option, Result}
+use Rattle.std.specs.Prelude.{◌≡◌, ℕ, IfOk, IfErr, Some, None, Option, Result}
 use Rattle.rules.specs.declared.refusal.Refusal.{Refusal}
 use Rattle.rules.specs.Refusals.{first, refusal}
 use Rattle.plan.specs.Measures.{Misses, Lawful}

@@ -7,7 +7,6 @@ use Rattle.rules.specs.Refusals.{Ground, ◌when◌, first}
 use Rattle.memory.specs.Looks.{longest}
 use Rattle.plan.specs.Measures.{Misses}
 use Rattle.model.specs.declared.answer.Forecast.{Forecast}
-use Rattle.model.specs.declared.order.Order.{Order}
 use Rattle.model.specs.Grounds.{order_grounds, look_grounds}
 use Rattle.model.specs.Keyed.{key}
 use Rattle.model.specs.Models.{at_rest, Model, model, made, coming, forecast, kept_if, model_contents}

@@ -1,16 +1,15 @@
 -- The law over runs, from what every call keeps.
-use Rattle.std.proofs.Common.{◌≡◌, ℕ, ◌+◌, ◌-◌, ◌/◌, ◌^◌, ◌<◌, ◌≤◌, Bool, true, false, cond, eqb, ltb, ◌⊎◌, ◌↔◌, List, [], ◌∷◌, ◌++◌, map, length, get_or, take, drop, is_some, Some, None, Option, sym, refl, ap, ◌∙◌, subst, ap₂, inl, inr, arith}
+use Rattle.std.proofs.Common.{◌≡◌, ℕ, ◌+◌, ◌-◌, ◌/◌, ◌^◌, ◌<◌, ◌≤◌, Bool, true, false, cond, eqb, ltb, ◌⊎◌, ◌↔◌, List, ◌∷◌, map, length, get_or, take, drop, is_some, Some, None, Option, sym, refl, ap, ◌∙◌, subst, inl, inr, arith}
 use Rattle.std.proofs.lemmas.List.{get_or_past}
 use Rattle.std.proofs.lemmas.Bool.{both_ways, cases_lt, eqb-true, eqb-false, ltb-true, ltb-false}
 use Rattle.rules.specs.declared.refusal.Refusal.{Refusal}
 use Rattle.rules.specs.declared.refusal.Refusal.TheVariants.{StepsMismatch}
 use Rattle.rules.specs.declared.server.Server.{Server}
 use Rattle.rules.specs.Refusals.{first}
-use Rattle.rules.specs.Tables.{table, side}
+use Rattle.rules.specs.Tables.{table}
 use Rattle.memory.specs.declared.key.KeyRule.{KeyRule}
 use Rattle.memory.specs.declared.key.Prefix.{Prefix}
 use Rattle.memory.specs.Holding.{Held, at, listed, Counted}
-use Rattle.memory.specs.Looks.{longest}
 use Rattle.plan.specs.Measures.{Misses, Lawful}
 use Rattle.plan.specs.Plans.{worst_miss, plan_weights, rule_total}
 use Rattle.plan.specs.Rivals.{Best}
@@ -22,13 +21,13 @@ use Rattle.model.specs.declared.order.Order.{Order}
 use Rattle.model.specs.declared.write.Write.{Write}
 use Rattle.model.specs.declared.write.Write.TheVariants.{Remove, Put}
 use Rattle.model.specs.Changes.{steps, altered}
-use Rattle.model.specs.Grounds.{registered, look_grounds}
+use Rattle.model.specs.Grounds.{look_grounds}
 use Rattle.model.specs.Keyed.{key, keyed, table_of, rules_of, key_rules, contents}
-use Rattle.model.specs.Laws.{Progress, progress, Outside, Settled, During, Moving, Last, Law, Alike}
-use Rattle.model.specs.Models.{Phase, at_rest, drafted, changing, Model, model, made, coming, standing_weights, coming_weights, order_steps, unless, look_answer, answer_in, contents_in, model_contents, model_after, model_answers}
-use Rattle.model.specs.Sound.{Fitting, Sound}
+use Rattle.model.specs.Laws.{Progress, progress, Outside, Settled, During, Moving, Law, Alike}
+use Rattle.model.specs.Models.{Phase, at_rest, drafted, changing, Model, model, made, coming, standing_weights, unless, look_answer, answer_in, contents_in, model_contents, model_after, model_answers}
+use Rattle.model.specs.Sound.{Sound}
 use Rattle.model.proofs.AtRest.{served}
-use Rattle.model.proofs.Changing.{InRange, keys_at, key_count, exact_count, staying, never_more, removal_finds, put_has_room, all_steps, same_looks}
+use Rattle.model.proofs.Changing.{keys_at, key_count, exact_count, staying, never_more, removal_finds, put_has_room, all_steps, same_looks}
 use Rattle.model.proofs.Models.{Tells, Going, going_after, after_width, after_capacity, next_look, answer_look, after_snoc, last_answer, made_going}
 use Rattle.model.proofs.Orders.{order_fitting}
 use Rattle.model.proofs.Plans.{Planned, planned}

@@ -13,9 +13,9 @@ use Rattle.model.specs.declared.call.Call.{Call}
 use Rattle.model.specs.declared.call.Call.TheVariants.{Place, Accept, Discard, Step, Close, Look}
 use Rattle.model.specs.declared.order.Order.{Order}
 use Rattle.model.specs.Grounds.{order_grounds, step_grounds, close_grounds}
-use Rattle.model.specs.Laws.{Progress, progress_by, progress_from, progress, Last}
+use Rattle.model.specs.Laws.{Progress, progress_by, progress_from, Last}
 use Rattle.model.specs.Models.{Phase, at_rest, drafted, changing, Model, model, made, coming, order_steps, forecast, unless, kept_if, look_answer, contents_in, answer_in, next_in, model_answer, model_next, model_after, model_answers}
-use Rattle.model.specs.Sound.{Fitting, PhaseSound, Sound}
+use Rattle.model.specs.Sound.{PhaseSound, Sound}
 use Rattle.model.proofs.Orders.{none_fitting, order_fitting}
 
 -- What the calls and answers tell of a change is so.

@@ -1,10 +1,10 @@
 -- What the plan of services that fit a switch gives the model.
-use Rattle.std.proofs.Common.{◌≡◌, ℕ, zero, suc, ◌+◌, ◌^◌, ◌<◌, ◌≤◌, Bool, true, false, ltb, List, [], ◌∷◌, length, get_or, replicate, is_some, Some, None, Option, sym, refl, ap, ◌∙◌, subst, arith}
+use Rattle.std.proofs.Common.{◌≡◌, ℕ, zero, suc, ◌^◌, ◌≤◌, false, ltb, List, [], ◌∷◌, length, get_or, replicate, is_some, Some, None, Option, sym, refl, ap, ◌∙◌, subst, arith}
 use Rattle.std.proofs.lemmas.Bool.{or_from, le-ltb}
-use Rattle.plan.specs.ByTag.{on, by_tag, Every}
+use Rattle.plan.specs.ByTag.{on, by_tag}
 use Rattle.plan.specs.Measures.{Misses, Lawful}
 use Rattle.plan.specs.Nearest.{nearest, need}
-use Rattle.plan.specs.Plans.{services, beyond, Targets, needs, worst_miss, weights_for, plan_weights, rule_total, largest_miss, Plan}
+use Rattle.plan.specs.Plans.{beyond, Targets, needs, worst_miss, weights_for, plan_weights, rule_total, largest_miss, Plan}
 use Rattle.plan.specs.Rivals.{Best}
 use Rattle.plan.proofs.ByTags.{none_above, every_at, by_tag_long, by_tag_at}
 use Rattle.plan.proofs.NeedLaws.{need_nearest}

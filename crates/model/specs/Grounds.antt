@@ -1,5 +1,5 @@
 -- The grounds for a refusal that the calls of a switch try, each list in its order. The model has no other; a memory's own come behind them.
-use Rattle.std.specs.Prelude.{ℕ, ◌+◌, ◌^◌, Bool, not, ◌||◌, List, [], ◌∷◌, is_some, Some, None, Option, nat_eq, nat_le, nat_lt, slice_index_or}
+use Rattle.std.specs.Prelude.{ℕ, ◌+◌, ◌^◌, Bool, not, List, [], ◌∷◌, is_some, None, Option, nat_eq, nat_le, nat_lt, slice_index_or}
 use Rattle.rules.specs.declared.refusal.Refusal.TheVariants.{WidthOutOfRange, MemoryNotEmpty, StepsMismatch, TagOutOfRange, BeyondWidth, AlreadyRegistered, NotRegistered, TooManyServices}
 use Rattle.rules.specs.Grounds.{bad_width}
 use Rattle.rules.specs.Refusals.{Ground, ◌when◌}

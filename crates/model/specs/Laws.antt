@@ -1,5 +1,5 @@
 -- The law of a switch over every run: a making, and any calls behind it.
-use Rattle.std.specs.Prelude.{◌≡◌, ℕ, suc, ◌^◌, ◌<◌, ◌≤◌, true, ◌↔◌, List, [], ◌∷◌, ◌++◌, length, take, is_some, Some, None, Option, slice_index_or}
+use Rattle.std.specs.Prelude.{◌≡◌, ℕ, suc, ◌^◌, ◌<◌, ◌≤◌, true, ◌↔◌, List, [], ◌∷◌, ◌++◌, length, take, is_some, Some, None, slice_index_or}
 use Rattle.rules.specs.Tables.{side}
 use Rattle.memory.specs.Holding.{Held}
 use Rattle.memory.specs.Looks.{longest}

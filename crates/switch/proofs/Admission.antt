@@ -1,8 +1,8 @@
 -- An order is refused by its own grounds, or by those of the plan that it brings.
-use Rattle.std.proofs.Common.{◌≡◌, ℕ, ◌+◌, ◌^◌, ◌<◌, ◌≤◌, Bool, true, false, cond, not, ltb, List, [], ◌∷◌, length, set, Some, None, Option, sym, ap, ◌∙◌, ap₂, arith}
+use Rattle.std.proofs.Common.{◌≡◌, ℕ, ◌+◌, ◌^◌, ◌<◌, ◌≤◌, false, cond, not, ltb, List, [], ◌∷◌, length, set, Some, None, Option, sym, ap, ◌∙◌, ap₂, arith}
 use Rattle.std.proofs.lemmas.Bool.{or_from, ltb-false, le-ltb, not-false, cond-false}
 use Rattle.rules.specs.declared.refusal.Refusal.{Refusal}
-use Rattle.rules.specs.declared.refusal.Refusal.TheVariants.{TagOutOfRange, BeyondWidth, AlreadyRegistered, NotRegistered, TooManyServices, WidthOutOfRange}
+use Rattle.rules.specs.declared.refusal.Refusal.TheVariants.{TagOutOfRange, BeyondWidth, AlreadyRegistered, NotRegistered, TooManyServices}
 use Rattle.rules.specs.Grounds.{bad_width}
 use Rattle.rules.specs.Refusals.{◌when◌, first}
 use Rattle.rules.proofs.Refusing.{refused_by}

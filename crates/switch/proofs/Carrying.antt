@@ -1,5 +1,5 @@
 -- Each call, by its contract, leads from agreement with the model to agreement with the model.
-use Rattle.std.proofs.Common.{◌≡◌, ℕ, ◌-◌, Bool, cond, eqb, ltb, List, length, IfOk, Some, None, Ok, Err, Option, Result, sym, refl, ap, ◌∙◌, subst, arith, MatchResult}
+use Rattle.std.proofs.Common.{◌≡◌, ℕ, ◌-◌, List, length, IfOk, Some, None, Ok, Err, Option, Result, sym, refl, ap, ◌∙◌, subst, arith, MatchResult}
 use Rattle.rules.specs.declared.refusal.Refusal.{Refusal}
 use Rattle.rules.specs.declared.server.Server.{Server}
 use Rattle.rules.specs.Refusals.{first, refusal}
@@ -13,7 +13,7 @@ use Rattle.model.specs.declared.call.Call.TheVariants.{Place, Accept, Discard, S
 use Rattle.model.specs.declared.order.Order.{Order}
 use Rattle.model.specs.Grounds.{order_grounds, step_grounds, close_grounds, look_grounds}
 use Rattle.model.specs.Keyed.{key}
-use Rattle.model.specs.Models.{Phase, at_rest, drafted, changing, Model, model, coming, order_steps, forecast, unless, kept_if, look_answer, model_next}
+use Rattle.model.specs.Models.{Phase, at_rest, drafted, changing, Model, model, coming, order_steps, forecast, unless, kept_if, model_next}
 use Rattle.model.proofs.Models.{next_look}
 use Rattle.switch.specs.declared.state.Changing.{Changing}
 use Rattle.switch.specs.declared.state.Draft.{Draft}
@@ -24,7 +24,7 @@ use Rattle.switch.specs.declared.state.State.TheVariants as state
 use Rattle.switch.specs.Calls.{refusal_of, place_grounds, forecast_of, accept_grounds, accept_desk, discard_grounds, step_refusal, step_desk, step_held, close_refusal, close_desk}
 use Rattle.switch.specs.Desks.{Desk, View}
 use Rattle.switch.specs.Kept.{StateKept, Under, Kept, Did, Carries}
-use Rattle.switch.proofs.Follows.{Follows, place_follows, accept_follows, discard_follows, look_follows, step_follows, close_follows}
+use Rattle.switch.proofs.Follows.{place_follows, accept_follows, discard_follows, look_follows, step_follows, close_follows}
 
 -- ---- what a result tells: an answer, and a state
 

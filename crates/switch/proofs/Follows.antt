@@ -1,5 +1,5 @@
 -- Each call, doing what its own contract says, follows the model.
-use Rattle.std.proofs.Common.{◌≡◌, ℕ, zero, suc, ◌+◌, ◌-◌, ◌<◌, ◌≤◌, Bool, true, false, cond, not, ◌&&◌, eqb, ltb, leb, List, [], ◌∷◌, ◌++◌, length, take, drop, is_some, Some, None, Option, sym, refl, ap, ◌∙◌, subst, ap₂, arith}
+use Rattle.std.proofs.Common.{◌≡◌, ℕ, zero, suc, ◌-◌, ◌<◌, Bool, true, false, cond, not, ◌&&◌, eqb, ltb, leb, List, [], ◌∷◌, ◌++◌, length, take, drop, is_some, Some, None, Option, sym, refl, ap, ◌∙◌, subst, ap₂, arith}
 use Rattle.std.specs.List.{AllByRecursion}
 use Rattle.std.proofs.ByRecursion.{All-drop}
 use Rattle.std.proofs.lemmas.List.{take_all}
@@ -9,9 +9,6 @@ use Rattle.rules.specs.declared.refusal.Refusal.TheVariants.{StateMismatch, Step
 use Rattle.rules.specs.declared.server.Server.{Server}
 use Rattle.rules.specs.Refusals.{first}
 use Rattle.memory.specs.Holding.{Held, at, same_prefix, Counted}
-use Rattle.memory.specs.Keys.{formed}
-use Rattle.memory.specs.Looks.{longest}
-use Rattle.memory.specs.Writes.{broken, written}
 use Rattle.plan.specs.Measures.{Misses}
 use Rattle.plan.specs.Plans.{plan_weights}
 use Rattle.model.specs.declared.answer.Answer.{Answer}
@@ -25,12 +22,12 @@ use Rattle.model.specs.declared.write.Write.TheVariants.{Remove, Put}
 use Rattle.model.specs.Changes.{steps, write_at, after_write, altered}
 use Rattle.model.specs.Grounds.{order_grounds, look_grounds}
 use Rattle.model.specs.Keyed.{key, contents}
-use Rattle.model.specs.Models.{Phase, at_rest, drafted, changing, Model, model, coming, order_steps, forecast, unless, kept_if, look_answer, model_contents, model_answer, model_next}
+use Rattle.model.specs.Models.{at_rest, drafted, changing, Model, model, coming, order_steps, forecast, unless, kept_if, look_answer, model_contents, model_answer, model_next}
 use Rattle.model.specs.Sound.{Sound}
 use Rattle.model.proofs.Changing.{Formed, one_more, writes_formed, same_looks}
 use Rattle.model.proofs.Laws.{plan_A, plan_B, finds, has_room, arrives}
 use Rattle.model.proofs.Models.{next_sound, answer_look}
-use Rattle.switch.specs.Calls.{place_grounds, forecast_of, current, accept_grounds, accept_desk, discard_grounds, next_write, write_grounds, write_held, write_refusal, step_refusal, step_desk, held_after, step_held, close_refusal, close_desk, closed}
+use Rattle.switch.specs.Calls.{place_grounds, forecast_of, current, accept_grounds, accept_desk, discard_grounds, write_grounds, write_refusal, step_refusal, step_desk, held_after, step_held, close_refusal, close_desk}
 use Rattle.switch.specs.Desks.{Desk, View}
 use Rattle.switch.specs.Kept.{model_desk, Under}
 

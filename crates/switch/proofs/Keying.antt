@@ -1,6 +1,6 @@
 -- Keys of tables that fit the width.
-use Rattle.std.proofs.Common.{◌≡◌, ℕ, zero, suc, ◌*◌, ◌^◌, ◌<◌, ◌≤◌, Bool, true, false, cond, List, [], ◌∷◌, map, get_or, Some, None, Decides, Option, sym, refl, ap, ◌∙◌, mul-le-mul, arith, pow_mono}
-use Rattle.std.proofs.lemmas.Bool.Decides.{nat_tests, not_from_Decides}
+use Rattle.std.proofs.Common.{◌≡◌, ℕ, zero, suc, ◌*◌, ◌^◌, ◌<◌, ◌≤◌, Bool, true, false, cond, List, [], ◌∷◌, map, get_or, Some, None, Option, sym, ap, ◌∙◌, mul-le-mul, arith, pow_mono}
+use Rattle.std.proofs.lemmas.Bool.Decides.{nat_tests}
 use Rattle.rules.specs.declared.rule.Rule.{Rule}
 use Rattle.rules.specs.Prefixes.{fits, all_fit}
 use Rattle.memory.specs.declared.key.KeyRule.{KeyRule}

@@ -1,9 +1,9 @@
 -- A listing tells its rules: its lines can be read in one way only.
-use Rattle.std.proofs.Common.{◌≡◌, ℕ, zero, suc, ◌+◌, ◌-◌, ◌*◌, ◌/◌, ◌%◌, ◌^◌, ◌<◌, ◌≤◌, false, List, [], ◌∷◌, ◌++◌, map, length, get_or, take, drop, Some, None, decimal, sum_by, Option, sym, refl, ap, ◌∙◌, subst, ap₂, append_assoc, arith, lit<, pow_mono}
+use Rattle.std.proofs.Common.{◌≡◌, ℕ, zero, suc, ◌+◌, ◌-◌, ◌%◌, ◌^◌, ◌<◌, ◌≤◌, false, List, [], ◌∷◌, ◌++◌, map, length, get_or, take, drop, None, decimal, Option, sym, refl, ap, ◌∙◌, subst, ap₂, append_assoc, arith, lit<, pow_mono}
 use Rattle.std.specs.List.{flat_map, AllByRecursion}
 use Rattle.std.proofs.lemmas.Fmt.{decimal_by_steps, decimal_nonempty, decimal_injective}
 use Rattle.std.proofs.ByRecursion.{All-append, All-map, All-weaker}
-use Rattle.std.proofs.lemmas.List.{append-nil, length-append, length-map, take_at, drop_at, drop-drop}
+use Rattle.std.proofs.lemmas.List.{length-append, length-map, take_at, drop_at, drop-drop}
 use Rattle.std.proofs.lemmas.List.Sums.{sum_by-cons}
 use Rattle.rules.specs.declared.rule.Rule.{Rule}
 use Rattle.rules.specs.declared.server.Server.{Server}
@@ -15,7 +15,7 @@ use Rattle.plan.specs.Plans.{beyond, rule_total}
 use Rattle.model.specs.Keyed.{keyed, from, tags, table_of, rules_of, key_rules}
 use Rattle.model.proofs.Keys.{InRange, all_shapes}
 use Rattle.model.proofs.Counts.{key_count}
-use Rattle.switch.specs.Listings.{Standing, under, standing_of, standing, numbered, line, lines, trailer, text_of, listing, over, Small, Lists, way_back, as_key, ReadBack}
+use Rattle.switch.specs.Listings.{Standing, under, standing_of, standing, line, lines, trailer, text_of, listing, over, Small, way_back, as_key, ReadBack}
 use Rattle.switch.proofs.Passes.{map_joined, range}
 
 -- ---- numbers

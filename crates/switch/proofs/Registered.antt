@@ -1,10 +1,8 @@
 -- What a register's own invariant says of its numbers.
-use Rattle.std.proofs.Common.{◌≡◌, ℕ, ◌^◌, Bool, true, false, not, List, is_some, Some, None, Option, sym, refl, ap, ◌∙◌, arith}
+use Rattle.std.proofs.Common.{◌≡◌, ℕ, ◌^◌, true, false, is_some, Some, None, Option, sym, refl, ap, ◌∙◌, arith}
 use Rattle.std.proofs.lemmas.Bool.{and_parts, not-true}
 use Rattle.rules.specs.declared.refusal.Refusal.{Refusal}
-use Rattle.rules.specs.Refusals.{first}
 use Rattle.plan.specs.Plans.{beyond}
-use Rattle.model.specs.Grounds.{order_grounds}
 use Rattle.model.specs.Models.{coming}
 use Rattle.model.specs.Sound.{Fitting}
 use Rattle.model.proofs.Orders.{order_fitting}

@@ -1,5 +1,5 @@
 -- What each call answers and leaves, for any register, memory and state that it is handed.
-use Rattle.std.specs.Prelude.{◌≡◌, ℕ, ◌-◌, Bool, cond, not, ◌&&◌, List, [], ◌∷◌, length, replicate, is_some, Some, None, Ok, Err, Option, Result, ◌==◌, nat_le, nat_lt}
+use Rattle.std.specs.Prelude.{ℕ, ◌-◌, Bool, cond, not, ◌&&◌, List, [], ◌∷◌, length, replicate, is_some, Some, None, Ok, Err, Option, Result, ◌==◌, nat_le, nat_lt}
 use Rattle.rules.specs.declared.refusal.Refusal.{Refusal}
 use Rattle.rules.specs.declared.refusal.Refusal.TheVariants.{StateMismatch, StepsMismatch, BrokenLayout, MemoryFull, NothingToRemove}
 use Rattle.rules.specs.Refusals.{Ground, ◌when◌, first}
@@ -8,15 +8,13 @@ use Rattle.memory.specs.Writes.{broken}
 use Rattle.plan.specs.ByTag.{on}
 use Rattle.plan.specs.Measures.{Misses}
 use Rattle.plan.specs.Plans.{worst_miss, plan_weights, rule_total}
-use Rattle.model.specs.declared.answer.Answer.{Answer}
-use Rattle.model.specs.declared.answer.Answer.TheVariants.{Done, Drafted}
 use Rattle.model.specs.declared.answer.Forecast.{Forecast}
 use Rattle.model.specs.declared.order.Order.{Order}
 use Rattle.model.specs.declared.write.Write.{Write}
 use Rattle.model.specs.declared.write.Write.TheVariants.{Remove, Put}
 use Rattle.model.specs.Changes.{steps, write_at, after_write}
 use Rattle.model.specs.Grounds.{order_grounds}
-use Rattle.model.specs.Models.{coming, unless, kept_if}
+use Rattle.model.specs.Models.{coming, kept_if}
 use Rattle.switch.specs.declared.state.Refused.{Refused}
 use Rattle.switch.specs.Desks.{Underway, Desk, with_change, View}
 

@@ -1,5 +1,5 @@
 -- The numbers of a register, and what a call may know of a rule memory.
-use Rattle.std.specs.Prelude.{ℕ, List, Some, None, Option}
+use Rattle.std.specs.Prelude.{ℕ, List, Option}
 use Rattle.memory.specs.Holding.{Held}
 use Rattle.plan.specs.ByTag.{on}
 use Rattle.model.specs.declared.order.Order.{Order}

@@ -1,4 +1,4 @@
-use Rattle.std.proofs.Common.{◌≡◌, Option, sym, ap, ◌∙◌, arith}
+use Rattle.std.proofs.Common.{Option, sym, ap, ◌∙◌, arith}
 use Rattle.rules.specs.declared.refusal.Refusal.{Refusal}
 use Rattle.model.specs.Models.{kept_if}
 use Rattle.switch.specs.Calls.{fresh}

@@ -1,4 +1,4 @@
-use Rattle.std.proofs.Common.{ℕ, ◌-◌, List, refl, subst, arith, rules}
+use Rattle.std.proofs.Common.{ℕ, List, refl, subst, arith, rules}
 use Rattle.std.proofs.lemmas.List.{same_lists, places}
 use Rattle.commands.specs.Lines.{Reads}
 use Rattle.commands.proofs.Laws.{lawful}

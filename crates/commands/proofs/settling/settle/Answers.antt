@@ -1,4 +1,4 @@
-use Rattle.std.proofs.Common.{◌≡◌, ◌∙◌}
+use Rattle.std.proofs.Common.{◌∙◌}
 use Rattle.plan.specs.Measures.{Misses}
 use Rattle.switch.specs.Desks.{Desk, View, desk, view}
 use Rattle.commands.proofs.ToRest.{draws, under_way, closes, never_open}

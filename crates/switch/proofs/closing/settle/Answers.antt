@@ -1,4 +1,4 @@
-use Rattle.std.proofs.Common.{◌≡◌, ℕ, ◌^◌, ◌≤◌, false, List, length, Option, sym, refl, ap, ◌∙◌, subst}
+use Rattle.std.proofs.Common.{◌≡◌, ℕ, ◌^◌, ◌≤◌, List, Option, sym, refl, ap, ◌∙◌, subst}
 use Rattle.plan.specs.Plans.{services, beyond}
 use Rattle.model.specs.Models.{coming}
 use Rattle.switch.specs.declared.register.Register.{Register}

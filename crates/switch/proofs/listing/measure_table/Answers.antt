@@ -1,7 +1,6 @@
-use Rattle.std.proofs.Common.{◌≡◌, ℕ, ◌^◌, ◌≤◌, List, map, length, Option, sym, ap, ◌∙◌, subst, arith}
+use Rattle.std.proofs.Common.{List, map, length, sym, ap, ◌∙◌, subst, arith}
 use Rattle.std.proofs.lemmas.List.{length-append, length-map}
 use Rattle.rules.specs.declared.rule.Rule.{Rule}
-use Rattle.rules.specs.Tables.{table}
 use Rattle.rules.specs.Walk.{to_come}
 use Rattle.model.specs.Keyed.{table_of}
 use Rattle.switch.specs.Listings.{under, line, lines}

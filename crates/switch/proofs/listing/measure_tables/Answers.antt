@@ -1,6 +1,6 @@
-use Rattle.std.proofs.Common.{◌≡◌, ◌+◌, length, sym, ap, ◌∙◌, subst, arith}
+use Rattle.std.proofs.Common.{◌+◌, length, ap, arith}
 use Rattle.std.proofs.lemmas.List.{length-append}
-use Rattle.switch.specs.Listings.{lines, standing}
+use Rattle.switch.specs.Listings.{lines}
 use Rattle.switch.proofs.Keying.{fit_at}
 use Rattle.switch.proofs.Lining.{from_tag, of_tag, all_tags, tag_more, tag_none, lines_all, lines_more, lines_none}
 use Rattle.switch.proofs.listing.measure_tables.Goals as goal

@@ -1,4 +1,4 @@
-use Rattle.std.proofs.Common.{◌≡◌, ℕ, ◌+◌, ◌≤◌, List, [], ◌++◌, length, sym, ap, ◌∙◌, arith}
+use Rattle.std.proofs.Common.{◌≡◌, ℕ, ◌+◌, List, [], ◌++◌, length, sym, ap, ◌∙◌, arith}
 use Rattle.rules.specs.Servers.{server_number}
 use Rattle.std.proofs.lemmas.List.{append-nil}
 use Rattle.switch.specs.Listings.{Standing, under, numbered, line, behind}

@@ -1,9 +1,9 @@
-use Rattle.std.proofs.Common.{◌≡◌, ℕ, ◌≤◌, List, [], map, length, sym, ap, ◌∙◌, subst, arith}
+use Rattle.std.proofs.Common.{List, [], map, length, sym, ap, ◌∙◌, arith}
 use Rattle.rules.specs.declared.rule.Rule.{Rule}
 use Rattle.rules.specs.Walk.{to_come}
 use Rattle.model.specs.Keyed.{table_of}
 use Rattle.switch.specs.Listings.{under, line, lines, over}
-use Rattle.switch.proofs.Filling.{Filled, lent_long, filled_as, turn, turn_room, used_all, filled_all}
+use Rattle.switch.proofs.Filling.{lent_long, filled_as, turn, turn_room, used_all, filled_all}
 use Rattle.switch.proofs.Lining.{rule_more}
 use Rattle.switch.proofs.listing.write_table.Goals as goal
 

@@ -1,4 +1,4 @@
-use Rattle.std.proofs.Common.{◌*◌, ◌^◌, ◌<◌, ◌≤◌, mul-le-mul_left, arith, pow_mono}
+use Rattle.std.proofs.Common.{◌^◌, ◌≤◌, mul-le-mul_left, arith, pow_mono}
 use Rattle.switch.specs.declared.register.Register.{Register}
 use Rattle.switch.proofs.looking.look.Goals as goal
 

@@ -1,9 +1,6 @@
-use Rattle.std.proofs.Common.{Ok, Err, subst}
+use Rattle.std.proofs.Common.{Ok, Err}
 use Rattle.plan.specs.Measures.{Misses}
-use Rattle.switch.specs.declared.state.State.{State}
-use Rattle.switch.specs.declared.state.State.TheVariants as state
 use Rattle.switch.specs.Desks.{Desk, desk, View, view}
-use Rattle.switch.specs.Kept.{Kept}
 use Rattle.switch.proofs.Carrying.{looked}
 use Rattle.switch.proofs.perform.on_look.Goals as goal
 

@@ -1,8 +1,6 @@
-use Rattle.std.proofs.Common.{◌≡◌, sym, subst}
-use Rattle.plan.specs.Measures.{Misses}
+use Rattle.std.proofs.Common.{sym, subst}
 use Rattle.model.specs.declared.call.Call.{Call}
-use Rattle.switch.specs.declared.state.State.{State}
-use Rattle.switch.specs.Desks.{Desk, desk, View, view}
+use Rattle.switch.specs.Desks.{desk, View, view}
 use Rattle.switch.specs.Kept.{Carries}
 use Rattle.switch.proofs.perform.perform.Goals as goal
 

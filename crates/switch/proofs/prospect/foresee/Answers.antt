@@ -1,4 +1,4 @@
-use Rattle.std.proofs.Common.{◌≡◌, None, sym, ◌∙◌, ap₂}
+use Rattle.std.proofs.Common.{None, sym}
 use Rattle.std.proofs.lemmas.Result.{err_from_is_err_and}
 use Rattle.plan.specs.Measures.{Misses}
 use Rattle.switch.specs.Desks.{desk}

@@ -1,6 +1,5 @@
 use Rattle.std.proofs.Common.{◌<◌, length, ◌∙◌, arith}
 use Rattle.std.proofs.lemmas.List.{drop-set-lt}
-use Rattle.model.specs.Models.{Model}
 use Rattle.switch.specs.Desks.{desk, view}
 use Rattle.switch.specs.Kept.{Kept}
 use Rattle.switch.proofs.Running.{one_more, ended}

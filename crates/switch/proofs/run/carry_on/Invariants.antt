@@ -1,5 +1,4 @@
 use Rattle.std.proofs.Common.{◌≡◌, ◌≤◌, length, take, drop}
-use Rattle.plan.specs.Measures.{Misses}
 use Rattle.model.specs.Models.{Model, model_after, model_answers}
 use Rattle.switch.specs.Desks.{desk, view}
 use Rattle.switch.specs.Kept.{Kept}
