@@ -29,7 +29,7 @@ module _ (s o : Option Server) (p q : Box (Unit {0}) Global) (l r : Trie) (h n v
   level_one : (r' : Trie) → 0 < n → half h ≤ v
       → ((k w : ℕ) → Within (h - 1) k w → at_bits r' (h - 1) k w ≡ cond (eqb (v - half h) w && eqb (n - 1) k) o (at_bits r (h - 1) k w))
       → (k w : ℕ) → Within h k w → at_bits (Node' s p l q r') h k w ≡ cond (eqb v w && eqb n k) o (at_bits (Node' s p l q r) h k w)
-  level_one r' pos up ih k w in-h = by (eqb k 0) (leb (half h) w) refl refl
+  level_one r' pos up ih k w in_h = by (eqb k 0) (leb (half h) w) refl refl
     where
       by : (z b : Bool) → eqb k 0 ≡ z → leb (half h) w ≡ b
           → cond z s (cond b (at_bits r' (h - 1) (k - 1) (w - half h)) (at_bits l (h - 1) (k - 1) w))
@@ -39,13 +39,13 @@ module _ (s o : Option Server) (p q : Box (Unit {0}) Global) (l r : Trie) (h n v
       by false true ez eb =
           let high : half h ≤ w = leb-true (half h) w eb in
           let more : 0 < k = omega (arith, eqb-false k 0 ez) in
-          ih (k - 1) (w - half h) (within_one h k w in-h more high)
+          ih (k - 1) (w - half h) (within_one h k w in_h more high)
           ∙ ap (λ t. cond t o (at_bits r (h - 1) (k - 1) (w - half h))) (shift_one (half h) v w n k up high pos more)
 
   level_zero : (l' : Trie) → 0 < n → v < half h
       → ((k w : ℕ) → Within (h - 1) k w → at_bits l' (h - 1) k w ≡ cond (eqb v w && eqb (n - 1) k) o (at_bits l (h - 1) k w))
       → (k w : ℕ) → Within h k w → at_bits (Node' s p l' q r) h k w ≡ cond (eqb v w && eqb n k) o (at_bits (Node' s p l q r) h k w)
-  level_zero l' pos low ih k w in-h = by (eqb k 0) (leb (half h) w) refl refl
+  level_zero l' pos low ih k w in_h = by (eqb k 0) (leb (half h) w) refl refl
     where
       by : (z b : Bool) → eqb k 0 ≡ z → leb (half h) w ≡ b
           → cond z s (cond b (at_bits r (h - 1) (k - 1) (w - half h)) (at_bits l' (h - 1) (k - 1) w))
@@ -55,20 +55,20 @@ module _ (s o : Option Server) (p q : Box (Unit {0}) Global) (l r : Trie) (h n v
       by false false ez eb =
           let under : w < half h = leb-false (half h) w eb in
           let more : 0 < k = omega (arith, eqb-false k 0 ez) in
-          ih (k - 1) w (within_zero h k w in-h more under)
+          ih (k - 1) w (within_zero h k w in_h more under)
           ∙ ap (λ t. cond t o (at_bits l (h - 1) (k - 1) w)) (shift_zero v w n k pos more)
 
   level_here : n ≡ 0 → Within h n v
       → (k w : ℕ) → Within h k w → at_bits (Node' o p l q r) h k w ≡ cond (eqb v w && eqb n k) o (at_bits (Node' s p l q r) h k w)
-  level_here none in-v k w in-h = by (eqb k 0) refl
+  level_here none in_v k w in_h = by (eqb k 0) refl
     where
       by : (z : Bool) → eqb k 0 ≡ z
           → cond z o (cond (leb (half h) w) (at_bits r (h - 1) (k - 1) (w - half h)) (at_bits l (h - 1) (k - 1) w))
           ≡ cond (eqb v w && eqb n k) o (cond z s (cond (leb (half h) w) (at_bits r (h - 1) (k - 1) (w - half h)) (at_bits l (h - 1) (k - 1) w)))
       by true ez =
           let here : k ≡ 0 = eqb-true k 0 ez in
-          let v0 = within_none h v (subst (λ m. Within h m v) none in-v) in
-          let w0 = within_none h w (subst (λ m. Within h m w) here in-h) in
+          let v0 = within_none h v (subst (λ m. Within h m v) none in_v) in
+          let w0 = within_none h w (subst (λ m. Within h m w) here in_h) in
           sym (cond-true (eqb v w && eqb n k) o s (and_from (eqb v w) (eqb n k) (eq-eqb v w (v0 ∙ sym w0)) (eq-eqb n k (none ∙ sym here))))
       by false ez = sym (cond-false (eqb v w && eqb n k) o _ (and_right (eqb v w) (eqb n k) (ne_eqb n k (λ e. eqb-false k 0 ez (sym e ∙ none)))))
 
@@ -96,13 +96,13 @@ less None k = omega arith
 less (Some x) k = omega arith
 
 module _ {t g c c₁ : Trie} {s : Option Server} {p q : Box (Unit {0}) Global} {l r : Trie} (h n v : ℕ) (x : Server)
-    (first : Opened t g c c₁) (is : g ≡ Node' s p l q r) (in-v : Within h n v) where
+    (first : Opened t g c c₁) (is : g ≡ Node' s p l q r) (in_v : Within h n v) where
   here : n ≡ 0 → Inserted t (Node' (Some x) p l q r) c c₁ h n v x
   here none =
       let sp = subst (λ u. Opened t u c c₁) is first in
       let at = sym (sp.held h n v) ∙ cond-true (eqb n 0) s (cond (leb (half h) v) (at_bits r (h - 1) (n - 1) (v - half h)) (at_bits l (h - 1) (n - 1) v)) (eq-eqb n 0 none) in
       record {
-        held = λ k w in-h. level_here s (Some x) p q l r h n v none in-v k w in-h ∙ ap (λ o. cond (eqb v w && eqb n k) (Some x) o) (sp.held h k w);
+        held = λ k w in_h. level_here s (Some x) p q l r h n v none in_v k w in_h ∙ ap (λ o. cond (eqb v w && eqb n k) (Some x) o) (sp.held h k w);
         nodes_kept = sp.nodes_kept;
         rules_are = more s (rules l + rules r) ∙ ap (λ m. m + cond (is_some s) 0 1) sp.rules_kept ∙ ap (λ o. rules t + cond (is_some o) 0 1) (sym at);
         node = refl;
@@ -119,13 +119,13 @@ module _ {t g c c₁ : Trie} {s : Option Server} {p q : Box (Unit {0}) Global} {
       let high : half h ≤ v = omega (arith, ea) in
       let at = sym (sp.held h n v) ∙ behind_one s p q l r h n v pos high in
       record {
-        held = λ k w in-h. level_one s (Some x) p q l r h n v r' pos high ih.held k w in-h ∙ ap (λ o. cond (eqb v w && eqb n k) (Some x) o) (sp.held h k w);
+        held = λ k w in_h. level_one s (Some x) p q l r h n v r' pos high ih.held k w in_h ∙ ap (λ o. cond (eqb v w && eqb n k) (Some x) o) (sp.held h k w);
         nodes_kept = omega (arith, ih.nodes_kept, sp.nodes_kept);
         rules_are = omega (arith, ih.rules_are, sp.rules_kept, ap {B = ℕ} (λ o. cond (is_some o) 0 1) at);
         node = refl;
         neat_kept = λ e.
             let parts = ready_parts s p q l r h (sp.ready_now h e) in
-            neat_from s p q l r' h (or_right (is_some s) _ (or_right (is_node l) (is_node r') ih.node)) (omega (arith, in-v.0)) parts.0 (ih.neat_kept parts.1);
+            neat_from s p q l r' h (or_right (is_some s) _ (or_right (is_node l) (is_node r') ih.node)) (omega (arith, in_v.0)) parts.0 (ih.neat_kept parts.1);
       }
 
   pub inserted_zero : {u l' c₂ : Trie} {a : ℕ} → 0 < n → a ≡ half h → v < a → u ≡ l → Inserted u l' c₁ c₂ (h - 1) (n - 1) v x → Inserted t (Node' s p l' q r) c c₂ h n v x
@@ -135,21 +135,21 @@ module _ {t g c c₁ : Trie} {s : Option Server} {p q : Box (Unit {0}) Global} {
       let low : v < half h = omega (arith, ea) in
       let at = sym (sp.held h n v) ∙ behind_zero s p q l r h n v pos low in
       record {
-        held = λ k w in-h. level_zero s (Some x) p q l r h n v l' pos low ih.held k w in-h ∙ ap (λ o. cond (eqb v w && eqb n k) (Some x) o) (sp.held h k w);
+        held = λ k w in_h. level_zero s (Some x) p q l r h n v l' pos low ih.held k w in_h ∙ ap (λ o. cond (eqb v w && eqb n k) (Some x) o) (sp.held h k w);
         nodes_kept = omega (arith, ih.nodes_kept, sp.nodes_kept);
         rules_are = omega (arith, ih.rules_are, sp.rules_kept, ap {B = ℕ} (λ o. cond (is_some o) 0 1) at);
         node = refl;
         neat_kept = λ e.
             let parts = ready_parts s p q l r h (sp.ready_now h e) in
-            neat_from s p q l' r h (or_right (is_some s) _ (or_left (is_node l') (is_node r) ih.node)) (omega (arith, in-v.0)) (ih.neat_kept parts.0) parts.1;
+            neat_from s p q l' r h (or_right (is_some s) _ (or_left (is_node l') (is_node r) ih.node)) (omega (arith, in_v.0)) (ih.neat_kept parts.0) parts.1;
       }
 
-module _ {t c : Trie} {s : Option Server} {p q : Box (Unit {0}) Global} {l r : Trie} (h n v : ℕ) (is : t ≡ Node' s p l q r) (in-v : Within h n v) where
+module _ {t c : Trie} {s : Option Server} {p q : Box (Unit {0}) Global} {l r : Trie} (h n v : ℕ) (is : t ≡ Node' s p l q r) (in_v : Within h n v) where
   gone : n ≡ 0 → Erased t (Node' None p l q r) c c h n v ready
   gone none =
       let at = ap (λ u. at_bits u h n v) is ∙ cond-true (eqb n 0) s (cond (leb (half h) v) (at_bits r (h - 1) (n - 1) (v - half h)) (at_bits l (h - 1) (n - 1) v)) (eq-eqb n 0 none) in
       record {
-        held = λ k w in-h. level_here s None p q l r h n v none in-v k w in-h ∙ ap (λ u. cond (eqb v w && eqb n k) None (at_bits u h k w)) (sym is);
+        held = λ k w in_h. level_here s None p q l r h n v none in_v k w in_h ∙ ap (λ u. cond (eqb v w && eqb n k) None (at_bits u h k w)) (sym is);
         nodes_kept = ap (λ u. nodes u + spares c) (sym is);
         rules_are = ap (λ o. (0 + (rules l + rules r)) + cond (is_some o) 1 0) at ∙ less s (rules l + rules r) ∙ ap rules (sym is);
         neat_kept = λ e. neat_ready s p q l r h (ap (λ u. neat u h) (sym is) ∙ e);
@@ -164,12 +164,12 @@ module _ {t c : Trie} {s : Option Server} {p q : Box (Unit {0}) Global} {l r : T
       let high : half h ≤ v = omega (arith, ea) in
       let at = ap (λ y. at_bits y h n v) is ∙ behind_one s p q l r h n v pos high in
       record {
-        held = λ k w in-h. level_one s None p q l r h n v r' pos high ih.held k w in-h ∙ ap (λ y. cond (eqb v w && eqb n k) None (at_bits y h k w)) (sym is);
+        held = λ k w in_h. level_one s None p q l r h n v r' pos high ih.held k w in_h ∙ ap (λ y. cond (eqb v w && eqb n k) None (at_bits y h k w)) (sym is);
         nodes_kept = omega (arith, ih.nodes_kept, ap nodes is);
         rules_are = omega (arith, ih.rules_are, ap rules is, ap {B = ℕ} (λ o. cond (is_some o) 1 0) at);
         neat_kept = λ e.
             let parts = ready_parts s p q l r h (neat_ready s p q l r h (ap (λ y. neat y h) (sym is) ∙ e)) in
-            ready_from s p q l r' h (omega (arith, in-v.0)) parts.0 (ih.neat_kept parts.1);
+            ready_from s p q l r' h (omega (arith, in_v.0)) parts.0 (ih.neat_kept parts.1);
       }
 
   pub erased_zero : {u l' c₂ : Trie} {a : ℕ} → 0 < n → a ≡ half h → v < a → u ≡ l → Erased u l' c c₂ (h - 1) (n - 1) v neat → Erased t (Node' s p l' q r) c c₂ h n v ready
@@ -178,12 +178,12 @@ module _ {t c : Trie} {s : Option Server} {p q : Box (Unit {0}) Global} {l r : T
       let low : v < half h = omega (arith, ea) in
       let at = ap (λ y. at_bits y h n v) is ∙ behind_zero s p q l r h n v pos low in
       record {
-        held = λ k w in-h. level_zero s None p q l r h n v l' pos low ih.held k w in-h ∙ ap (λ y. cond (eqb v w && eqb n k) None (at_bits y h k w)) (sym is);
+        held = λ k w in_h. level_zero s None p q l r h n v l' pos low ih.held k w in_h ∙ ap (λ y. cond (eqb v w && eqb n k) None (at_bits y h k w)) (sym is);
         nodes_kept = omega (arith, ih.nodes_kept, ap nodes is);
         rules_are = omega (arith, ih.rules_are, ap rules is, ap {B = ℕ} (λ o. cond (is_some o) 1 0) at);
         neat_kept = λ e.
             let parts = ready_parts s p q l r h (neat_ready s p q l r h (ap (λ y. neat y h) (sym is) ∙ e)) in
-            ready_from s p q l' r h (omega (arith, in-v.0)) (ih.neat_kept parts.0) parts.1;
+            ready_from s p q l' r h (omega (arith, in_v.0)) (ih.neat_kept parts.0) parts.1;
       }
 
 -- a cut, and then the idle node
@@ -191,7 +191,7 @@ pub tidy : {t t₁ u t₂ c c₁ c₂ : Trie} (h n v : ℕ) → Erased t t₁ c 
 tidy {t₂ = t₂} {c₁ = c₁} {c₂ = c₂} h n v done eu tidied =
     let td = subst (λ y. Pruned y t₂ c₁ c₂) eu tidied in
     record {
-      held = λ k w in-h. td.held h k w ∙ done.held k w in-h;
+      held = λ k w in_h. td.held h k w ∙ done.held k w in_h;
       nodes_kept = omega (arith, td.nodes_kept, done.nodes_kept);
       rules_are = omega (arith, td.rules_kept, done.rules_are);
       neat_kept = λ e. td.neat_now h (done.neat_kept e);

@@ -11,8 +11,8 @@ use Rattle.memory.specs.Keys.{formed}
 use Rattle.memory.specs.Holding.{Held, at, same_prefix}
 use Rattle.memory.specs.Writes.{broken, written, Put, Removed}
 
-abbrev kept : (p : Prefix) → Type 0
-kept p = formed p.value p.length ≡ true
+abbrev Kept : (p : Prefix) → Type 0
+Kept p = formed p.value p.length ≡ true
 
 -- whether a put of this prefix finds the memory full
 abbrev full : Held → ℕ → ℕ → Prefix → Bool
@@ -24,7 +24,7 @@ tried : {T : Type 0} (h : Held) (n most : ℕ) (p : Prefix) (r : Result T Refusa
 tried h n most p r a b ea eb e = e ∙ sym (ap (λ x. first ((BrokenLayout when x) ∷ (MemoryFull when full h n most p) ∷ [])) ea ∙ ap (λ x. first ((BrokenLayout when a) ∷ (MemoryFull when x) ∷ [])) eb)
 
 module _ {T : Type 0} {h h' : Held} {n n' : ℕ} (most : ℕ) (rule : KeyRule) where
-  pub put_full : kept rule.prefix → at h rule.prefix ≡ None → most ≤ n → ((v l : ℕ) → h' v l ≡ h v l) → n' ≡ n → Put {T = T} h h' n n' most rule (Err MemoryFull)
+  pub put_full : Kept rule.prefix → at h rule.prefix ≡ None → most ≤ n → ((v l : ℕ) → h' v l ≡ h v l) → n' ≡ n → Put {T = T} h h' n n' most rule (Err MemoryFull)
   put_full f o over e m =
       record {
         refused = tried {T = T} h n most rule.prefix (Err MemoryFull) false true (ap not f) (and_from _ _ (ap (λ x. not (is_some x)) o) (le-leb most n over)) refl;
@@ -32,7 +32,7 @@ module _ {T : Type 0} {h h' : Held} {n n' : ℕ} (most : ℕ) (rule : KeyRule) w
         counts = omega arith;
       }
 
-  pub put_new : (x : T) → kept rule.prefix → at h rule.prefix ≡ None → n < most → ((v l : ℕ) → h' v l ≡ written h rule.prefix (Some rule.server) v l) → n' ≡ n + 1 → Put h h' n n' most rule (Ok x)
+  pub put_new : (x : T) → Kept rule.prefix → at h rule.prefix ≡ None → n < most → ((v l : ℕ) → h' v l ≡ written h rule.prefix (Some rule.server) v l) → n' ≡ n + 1 → Put h h' n n' most rule (Ok x)
   put_new x f o fits e m =
       record {
         refused = tried {T = T} h n most rule.prefix (Ok x) false false (ap not f) (and_right _ (leb most n) (lt-leb most n fits)) refl;
@@ -40,7 +40,7 @@ module _ {T : Type 0} {h h' : Held} {n n' : ℕ} (most : ℕ) (rule : KeyRule) w
         counts = m ∙ ap (λ y. n + cond (not (is_some y)) 1 0) (sym o);
       }
 
-  pub put_old : (x : T) → kept rule.prefix → (t : Server) → at h rule.prefix ≡ Some t → ((v l : ℕ) → h' v l ≡ written h rule.prefix (Some rule.server) v l) → n' ≡ n → Put h h' n n' most rule (Ok x)
+  pub put_old : (x : T) → Kept rule.prefix → (t : Server) → at h rule.prefix ≡ Some t → ((v l : ℕ) → h' v l ≡ written h rule.prefix (Some rule.server) v l) → n' ≡ n → Put h h' n n' most rule (Ok x)
   put_old x f t o e m =
       record {
         refused = tried {T = T} h n most rule.prefix (Ok x) false false (ap not f) (and_left _ (leb most n) (ap (λ y. not (is_some y)) o)) refl;
@@ -48,14 +48,14 @@ module _ {T : Type 0} {h h' : Held} {n n' : ℕ} (most : ℕ) (rule : KeyRule) w
         counts = (let z : n' ≡ n + 0 = omega arith in z ∙ ap (λ y. n + cond (not (is_some y)) 1 0) (sym o));
       }
 
-taken : {T : Type 0} (p : Prefix) (x : T) → kept p → refusal {T = T} (Ok x) ≡ first ((BrokenLayout when broken p) ∷ [])
+taken : {T : Type 0} (p : Prefix) (x : T) → Kept p → refusal {T = T} (Ok x) ≡ first ((BrokenLayout when broken p) ∷ [])
 taken p x f = sym (ap (λ y. first ((BrokenLayout when not y) ∷ [])) f)
 
 module _ {T : Type 0} {h h' : Held} {n n' : ℕ} (p : Prefix) where
-  pub remove_there : (x : T) → kept p → (t : Server) → at h p ≡ Some t → ((v l : ℕ) → h' v l ≡ written h p None v l) → n' + 1 ≡ n → Removed h h' n n' p (Ok x)
+  pub remove_there : (x : T) → Kept p → (t : Server) → at h p ≡ Some t → ((v l : ℕ) → h' v l ≡ written h p None v l) → n' + 1 ≡ n → Removed h h' n n' p (Ok x)
   remove_there x f t o e m = record { refused = taken p x f; holds = e; counts = ap (λ y. n' + cond (is_some y) 1 0) o ∙ m }
 
-  pub remove_absent : (x : T) → kept p → at h p ≡ None → ((v l : ℕ) → h' v l ≡ h v l) → n' ≡ n → Removed h h' n n' p (Ok x)
+  pub remove_absent : (x : T) → Kept p → at h p ≡ None → ((v l : ℕ) → h' v l ≡ h v l) → n' ≡ n → Removed h h' n n' p (Ok x)
   remove_absent x f o e m =
       record {
         refused = taken p x f;

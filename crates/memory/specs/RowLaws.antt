@@ -1,5 +1,5 @@
 -- Laws of rules in rows.
-use Rattle.std.specs.Prelude.{◌≡◌, ℕ, zero, suc, ◌^◌, ◌<◌, ◌≤◌, Bool, true, false, cond, not, ◌||◌, List, [], ◌∷◌, length, is_some, Some, None, Option, ◌==◌, ◌≢◌, nat_eq, nat_le, slice_index_or, slice_set, refl}
+use Rattle.std.specs.Prelude.{◌≡◌, ℕ, zero, suc, ◌^◌, ◌<◌, ◌≤◌, Bool, true, false, cond, not, ◌||◌, List, [], ◌∷◌, length, is_some, Some, None, Option, ◌==◌, ◌≢◌, nat_le, slice_index_or, slice_set, refl}
 use Rattle.std.proofs.Common.{sym, ap, ◌∙◌, arith}
 use Rattle.std.proofs.lemmas.Bool.{and_parts, and_from, and_right, or_parts, or_from, eqb-true, eq-eqb, ne_eqb, le-leb, leb-true, leb-false, false≢true, both_ways, not-true, not_from_false, cond-true, cond-false}
 use Rattle.std.proofs.lemmas.Bool.Decides.{nat_tests}
@@ -179,7 +179,7 @@ short n [] v l f h = refl
 short n (r ∷ rs) v l f h =
     let t = and_parts (nat_le r.rule.prefix.length n) (falling r.rule.prefix.length (row_prefixes rs)) f in
     let low = leb-true r.rule.prefix.length n t.0 in
-    let off : nat_eq r.rule.prefix.length l ≡ false = ne_eqb r.rule.prefix.length l (λ e. omega (arith, low, e)) in
+    let off : (r.rule.prefix.length == l) ≡ false = ne_eqb r.rule.prefix.length l (λ e. omega (arith, low, e)) in
     cond-false (named r v l) _ _ (and_right (r.rule.prefix.value == v) (r.rule.prefix.length == l) off) ∙ short r.rule.prefix.length rs v l t.1 (omega (arith, low))
 
 -- a row matches the keys that its prefix covers

@@ -118,16 +118,16 @@ module _ (W t : ℕ) where
       above l more most =
           let n : ℕ = l - (32 - W) in
           let all : 32 - W + n ≡ l = omega arith in
-          let most-n : n ≤ W = omega arith in
+          let most_n : n ≤ W = omega arith in
           subst (λ x. at_length x ≡ None) all
-          (same _ _ (cut_tag a n w most-n low) ∙ none_longer a n r.length rs w most-n (omega arith) match.longest)
+          (same _ _ (cut_tag a n w most_n low) ∙ none_longer a n r.length rs w most_n (omega arith) match.longest)
 
       here : at_length (32 - W + r.length) ≡ Some r.server
       here =
-          let cut-is : cut (key W t a) (32 - W + r.length) ≡ key W t r.start
+          let cut_is : cut (key W t a) (32 - W + r.length) ≡ key W t r.start
           = cut_key a r.length w shape.short ∙ ap (key W t) (sym (start_is W a r shape match.hit)) in
           same _ _ (cut_tag a r.length w shape.short low)
-          ∙ ap (λ v. listed (map (keyed W t) rs) v (32 - W + r.length)) cut-is
+          ∙ ap (λ v. listed (map (keyed W t) rs) v (32 - W + r.length)) cut_is
           ∙ rule_at r rs up match.listed
 
 -- A service whose table is held sends each of its addresses to the server that the weight says: server 1 exactly below the weight.

@@ -185,11 +185,11 @@ module _ (miss : Misses) (lawful : Lawful miss) (W R : ℕ) (low : 1 ≤ W) (hig
     as_the_model = said;
     look = λ ks xs t a x last.
         let m = model_after miss (made W R) ks in
-        let same-model : model_after miss (made W R) calls ≡ m
+        let same_model : model_after miss (made W R) calls ≡ m
         = ap (model_after miss (made W R)) last.call_is ∙ after_snoc miss (made W R) ks (Look t a) ∙ next_look miss m m.phase t a in
         (last_answer miss (made W R) calls answers ks (Look t a) xs x said last).1 ∙ answer_look miss m m.phase t a
         ∙ ap (λ (k : ℕ). look_answer k (model_contents miss m) t a) (after_width miss (made W R) ks)
-        ∙ same_look W (model_contents miss m) held (λ v l. sym (holds v l ∙ ap (λ (n : Model). model_contents miss n v l) same-model)) t a;
+        ∙ same_look W (model_contents miss m) held (λ v l. sym (holds v l ∙ ap (λ (n : Model). model_contents miss n v l) same_model)) t a;
     outside = λ x. let m = model_after miss (made W R) calls in
         outside_law miss m.width m.capacity m.targets held size counted m.phase (going_to calls).sound holds x;
     during = λ o x. let m = model_after miss (made W R) calls in

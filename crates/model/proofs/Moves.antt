@@ -71,12 +71,12 @@ point (suc k) (r ∷ rs) ps = go (point k rs ps)
 
 -- ---- the change from A to B
 
-module _ (A B : List KeyRule) (apart-A : Apart A) (apart-B : Apart B) where
+module _ (A B : List KeyRule) (apart_A : Apart A) (apart_B : Apart B) where
   apart_removed : Apart (removed A B)
-  apart_removed = apart_kept (lack_prefix B) A apart-A
+  apart_removed = apart_kept (lack_prefix B) A apart_A
 
   apart_put : Apart (put A B)
-  apart_put = apart_kept (lack_rule A) B apart-B
+  apart_put = apart_kept (lack_rule A) B apart_B
 
   -- what is held after all removals
   abbrev left : Held
@@ -84,7 +84,7 @@ module _ (A B : List KeyRule) (apart-A : Apart A) (apart-B : Apart B) where
 
   removals_done : (v l : ℕ) → altered (listed A) (map remove (removed A B)) v l ≡ left v l
   removals_done v l =
-      altered_removes (listed A) (removed A B) v l ∙ ap (λ (o : Option Server). cond (is_some o) None (listed A v l)) (listed_kept (lack_prefix B) A apart-A v l)
+      altered_removes (listed A) (removed A B) v l ∙ ap (λ (o : Option Server). cond (is_some o) None (listed A v l)) (listed_kept (lack_prefix B) A apart_A v l)
       ∙ go (is_some (listed B v l)) (listed A v l)
     where
       go : (b : Bool) (o : Option Server) → cond (is_some (only (λ s. not b) o)) None o ≡ cond b o None
@@ -104,7 +104,7 @@ module _ (A B : List KeyRule) (apart-A : Apart A) (apart-B : Apart B) where
   pub all_done : (v l : ℕ) → altered (listed A) (moves A B) v l ≡ listed B v l
   all_done v l =
       some_put (put A B) [] (sym (append-nil (put A B))) v l
-      ∙ ap (λ (o : Option Server). option_or o (left v l)) (listed_kept (lack_rule A) B apart-B v l) ∙ go (listed A v l) (listed B v l)
+      ∙ ap (λ (o : Option Server). option_or o (left v l)) (listed_kept (lack_rule A) B apart_B v l) ∙ go (listed A v l) (listed B v l)
     where
       pick : (a : Option Server) (s : Server) (b : Bool) → same_server a s ≡ b → option_or (cond (not b) (Some s) None) a ≡ Some s
       pick a s true e = answer_is a s e
@@ -128,7 +128,7 @@ module _ (A B : List KeyRule) (apart-A : Apart A) (apart-B : Apart B) where
       go : (b : Option Server) → listed B v l ≡ b → is_some b ≡ true
       go (Some s) f = refl
       go None f =
-          let g : listed xs v l ≡ None = front_none xs ys v l (ap (λ (z : List KeyRule). listed z v l) (sym e) ∙ kept_none (lack_rule A) B apart-B v l f) in
+          let g : listed xs v l ≡ None = front_none xs ys v l (ap (λ (z : List KeyRule). listed z v l) (sym e) ∙ kept_none (lack_rule A) B apart_B v l f) in
           absurd (false≢true (ap₂ (λ (o b : Option Server). is_some (option_or o (cond (is_some b) (listed A v l) None))) (sym g) (sym f) ∙ ap is_some (sym (some_put xs ys e v l)) ∙ h))
 
   module _ (k : ℕ) where
@@ -151,7 +151,7 @@ module _ (A B : List KeyRule) (apart-A : Apart A) (apart-B : Apart B) where
 
         gone : (xs ys : List KeyRule) → removed A B ≡ xs ++ ys → listed xs v l ≡ None
         gone xs ys e =
-            front_none xs ys v l (ap (λ (z : List KeyRule). listed z v l) (sym e) ∙ listed_kept (lack_prefix B) A apart-A v l
+            front_none xs ys v l (ap (λ (z : List KeyRule). listed z v l) (sym e) ∙ listed_kept (lack_prefix B) A apart_A v l
             ∙ ap (λ (c : Bool). only (λ s. not c) (listed A v l)) b ∙ none (listed A v l))
 
         go : Here → is_some (so_far v l) ≡ true
@@ -168,9 +168,9 @@ module _ (A B : List KeyRule) (apart-A : Apart A) (apart-B : Apart B) where
       where
         go : Here → n ≤ m
         go (removing xs ys e f g) =
-            omega (arith, within_list A apart-A so_far n all (λ v l s. in_removals xs v l (ap (λ (ws : List Write). is_some (altered (listed A) ws v l)) (sym f) ∙ s)))
+            omega (arith, within_list A apart_A so_far n all (λ v l s. in_removals xs v l (ap (λ (ws : List Write). is_some (altered (listed A) ws v l)) (sym f) ∙ s)))
         go (putting xs ys e f g) =
-            omega (arith, within_list B apart-B so_far n all (λ v l s. in_puts xs ys e v l (ap (λ (ws : List Write). is_some (altered (listed A) ws v l)) (sym f) ∙ s)))
+            omega (arith, within_list B apart_B so_far n all (λ v l s. in_puts xs ys e v l (ap (λ (ws : List Write). is_some (altered (listed A) ws v l)) (sym f) ∙ s)))
 
     -- A removal finds its prefix.
     pub removed_there : (p : Prefix) (back : List Write) → drop k (moves A B) ≡ Remove p ∷ back → is_some (at so_far p) ≡ true
@@ -194,7 +194,7 @@ module _ (A B : List KeyRule) (apart-A : Apart A) (apart-B : Apart B) where
             ap is_some (altered_removes (listed A) xs y.prefix.value y.prefix.length)
             ∙ ap (λ (o : Option Server). is_some (cond (is_some o) None (at (listed A) y.prefix))) alone
             ∙ found (is_some (at (listed B) y.prefix)) (at (listed A) y.prefix) y.server
-            (sym (listed_kept (lack_prefix B) A apart-A y.prefix.value y.prefix.length)
+            (sym (listed_kept (lack_prefix B) A apart_A y.prefix.value y.prefix.length)
             ∙ ap (λ (z : List KeyRule). at (listed z) y.prefix) e ∙ listed_behind xs y ys alone)
 
         at_point : (xs ys : List KeyRule) → removed A B ≡ xs ++ ys → take k (moves A B) ≡ map remove xs → map remove ys ++ map Put (put A B) ≡ Remove p ∷ back
@@ -219,13 +219,13 @@ module _ (A B : List KeyRule) (apart-A : Apart A) (apart-B : Apart B) where
         comes : (xs ys : List KeyRule) → put A B ≡ xs ++ (r ∷ ys) → (o : Option Server) → at (listed B) r.prefix ≡ o → is_some o ≡ true
         comes xs ys e (Some s) f = refl
         comes xs ys e None f =
-            absurd (none_some (kept_none (lack_rule A) B apart-B r.prefix.value r.prefix.length f)
+            absurd (none_some (kept_none (lack_rule A) B apart_B r.prefix.value r.prefix.length f)
             (ap (λ (z : List KeyRule). at (listed z) r.prefix) e ∙ listed_behind xs r ys (apart_middle xs r ys (subst Apart e apart_put))))
 
         room : (xs ys : List KeyRule) → put A B ≡ xs ++ ys → map Put ys ≡ Put r ∷ back → take k (moves A B) ≡ map remove (removed A B) ++ map Put xs → n < length B
         room xs [] e g f = absurd (let z : ◌≡◌ {A = ℕ} 0 1 = cc in omega arith)
         room xs (y ∷ ys) e g f =
-            below_list B apart-B so_far n all (λ v l s. in_puts xs (y ∷ ys) e v l (ap (λ (ws : List Write). is_some (altered (listed A) ws v l)) (sym f) ∙ s))
+            below_list B apart_B so_far n all (λ v l s. in_puts xs (y ∷ ys) e v l (ap (λ (ws : List Write). is_some (altered (listed A) ws v l)) (sym f) ∙ s))
             r.prefix new (comes xs ys (e ∙ ap (λ (z : KeyRule). xs ++ (z ∷ ys)) (its_rule g)) (at (listed B) r.prefix) refl)
 
         no_removals : (ys : List KeyRule) → map remove ys ++ map Put (put A B) ≡ Put r ∷ back → (ys ≡ []) × (map Put (put A B) ≡ Put r ∷ back)

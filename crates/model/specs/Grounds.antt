@@ -1,5 +1,5 @@
 -- The grounds for a refusal that the calls of a switch try, each list in its order. The model has no other; a memory's own come behind them.
-use Rattle.std.specs.Prelude.{ℕ, ◌+◌, ◌^◌, Bool, not, List, [], ◌∷◌, is_some, None, Option, nat_eq, nat_le, nat_lt, slice_index_or}
+use Rattle.std.specs.Prelude.{ℕ, ◌+◌, ◌^◌, Bool, not, List, [], ◌∷◌, is_some, None, Option, ◌==◌, nat_le, nat_lt, slice_index_or}
 use Rattle.rules.specs.declared.refusal.Refusal.TheVariants.{WidthOutOfRange, MemoryNotEmpty, StepsMismatch, TagOutOfRange, BeyondWidth, AlreadyRegistered, NotRegistered, TooManyServices}
 use Rattle.rules.specs.Grounds.{bad_width}
 use Rattle.rules.specs.Refusals.{Ground, ◌when◌}
@@ -21,7 +21,7 @@ order_grounds W R ts (Withdraw t) = (TagOutOfRange when nat_lt 63 t) ∷ (NotReg
 
 -- A step and a close, with so many steps left.
 abbrev pub step_grounds : ℕ → List Ground
-step_grounds left = (StepsMismatch when nat_eq left 0) ∷ []
+step_grounds left = (StepsMismatch when left == 0) ∷ []
 
 abbrev pub close_grounds : ℕ → List Ground
 close_grounds left = (StepsMismatch when nat_lt 0 left) ∷ []

@@ -1,5 +1,5 @@
 -- The nearest weight to a target that so many rules can give, and how many rules come near enough.
-use Rattle.std.specs.Prelude.{◌≡◌, ℕ, zero, suc, ◌-◌, ◌^◌, ◌≤◌, Bool, true, false, cond, ◌&&◌, ◌||◌, leb, ◌==◌, nat_le, nat_lt}
+use Rattle.std.specs.Prelude.{◌≡◌, ℕ, zero, suc, ◌-◌, ◌^◌, ◌≤◌, Bool, true, false, cond, ◌&&◌, ◌||◌, ◌==◌, nat_le, nat_lt}
 use Rattle.rules.specs.Shortest.{L}
 use Rattle.plan.specs.Measures.{Misses, dist}
 
@@ -50,4 +50,4 @@ least p k (suc f) = elim (p k) [ true ↦ k | false ↦ least p (suc k) f ]
 
 -- The need of a target c: the least number of rules whose nearest weight misses by at most e. L W c rules give c itself.
 unfoldable pub need : Misses → ℕ → ℕ → ℕ → ℕ
-need miss W c e = least (λ n. leb (miss W c (nearest miss W c n)) e) 1 (L W c - 1)
+need miss W c e = least (λ n. nat_le (miss W c (nearest miss W c n)) e) 1 (L W c - 1)

@@ -44,16 +44,16 @@ carry_within (suc f) (suc k) h = go (parity (suc k)) (carry_within f (suc k / 2)
         ∙ ap (λ (x : ℕ). x * 2 + 0) ih
         ∙ sym (xor_low (3 * (n + 1)) (n + 1) (3 * (m + 1)) (m + 1) 0 0 (omega arith) (omega arith) (omega arith) (omega arith))
 
-abbrev E : ℕ → ℕ
-E n = ones (bit_xor (3 * n) n)
+abbrev closed : ℕ → ℕ
+closed n = ones (bit_xor (3 * n) n)
 
-E_even : (n m : ℕ) → n ≡ 2 * m → E n ≡ E m
-E_even n m e =
+closed_even : (n m : ℕ) → n ≡ 2 * m → closed n ≡ closed m
+closed_even n m e =
     let p = xor_low (3 * n) n (3 * m) m 0 0 (omega arith) (omega arith) (omega arith) (omega arith) in
     omega (arith, ones_low (bit_xor (3 * n) n) (bit_xor (3 * m) m) 0 p (omega arith))
 
-E_one : (n k : ℕ) → n ≡ 4 * k + 1 → E n ≡ E k + 1
-E_one n k e =
+closed_one : (n k : ℕ) → n ≡ 4 * k + 1 → closed n ≡ closed k + 1
+closed_one n k e =
     let p = xor_low (3 * n) n (6 * k + 1) (2 * k) 1 1 (omega arith) (omega arith) (omega arith) (omega arith) in
     let q = xor_low (6 * k + 1) (2 * k) (3 * k) k 1 0 (omega arith) (omega arith) (omega arith) (omega arith) in
     omega (
@@ -62,8 +62,8 @@ E_one n k e =
       ones_low (bit_xor (6 * k + 1) (2 * k)) (bit_xor (3 * k) k) 1 q (omega arith),
     )
 
-E_three : (n k : ℕ) → n ≡ 4 * k + 3 → E n ≡ E (k + 1) + 1
-E_three n k e =
+closed_three : (n k : ℕ) → n ≡ 4 * k + 3 → closed n ≡ closed (k + 1) + 1
+closed_three n k e =
     let p = xor_low (3 * n) n (6 * k + 4) (2 * k + 1) 1 1 (omega arith) (omega arith) (omega arith) (omega arith) in
     let q = xor_low (6 * k + 4) (2 * k + 1) (3 * k + 2) k 0 1 (omega arith) (omega arith) (omega arith) (omega arith) in
     omega (
@@ -74,7 +74,7 @@ E_three n k e =
     )
 
 -- what keeps the four laws is D
-closed_within : (f n : ℕ) → n ≤ f → D n ≡ E n
+closed_within : (f n : ℕ) → n ≤ f → D n ≡ closed n
 unfolding ones
 closed_within zero zero h = D_none
 closed_within zero (suc n) h = absurd (not-suc-le-zero h)
@@ -86,12 +86,12 @@ closed_within (suc f) (suc n) h =
     k : ℕ
     k = suc n / 4
 
-    go : (r : ℕ) → suc n % 4 ≡ r → D (suc n / 2) ≡ E (suc n / 2) → D k ≡ E k → (k + 1 ≤ f → D (k + 1) ≡ E (k + 1)) → D (suc n) ≡ E (suc n)
-    go zero e a b c = D_even (suc n) (suc n / 2) (omega arith) ∙ a ∙ sym (E_even (suc n) (suc n / 2) (omega arith))
-    go (suc zero) e a b c = omega (arith, D_one (suc n) k (omega arith), E_one (suc n) k (omega arith), b)
-    go (suc (suc zero)) e a b c = D_even (suc n) (suc n / 2) (omega arith) ∙ a ∙ sym (E_even (suc n) (suc n / 2) (omega arith))
+    go : (r : ℕ) → suc n % 4 ≡ r → D (suc n / 2) ≡ closed (suc n / 2) → D k ≡ closed k → (k + 1 ≤ f → D (k + 1) ≡ closed (k + 1)) → D (suc n) ≡ closed (suc n)
+    go zero e a b c = D_even (suc n) (suc n / 2) (omega arith) ∙ a ∙ sym (closed_even (suc n) (suc n / 2) (omega arith))
+    go (suc zero) e a b c = omega (arith, D_one (suc n) k (omega arith), closed_one (suc n) k (omega arith), b)
+    go (suc (suc zero)) e a b c = D_even (suc n) (suc n / 2) (omega arith) ∙ a ∙ sym (closed_even (suc n) (suc n / 2) (omega arith))
     go (suc (suc (suc r))) e a b c =
-        omega (arith, D_three (suc n) k (omega arith), E_three (suc n) k (omega arith), c (omega arith))
+        omega (arith, D_three (suc n) k (omega arith), closed_three (suc n) k (omega arith), c (omega arith))
 
 pub closed_form : (n : ℕ) → D n ≡ ones (bit_xor (3 * n) n)
 closed_form n = closed_within n n (omega arith)

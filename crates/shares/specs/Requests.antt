@@ -1,5 +1,5 @@
 -- The requests that a command line can spell.
-use Rattle.std.specs.Prelude.{◌≡◌, ℕ, ◌^◌, ◌<◌, List, [], ◌∷◌, map, vec_items, codes, decimal, ◌≢◌}
+use Rattle.std.specs.Prelude.{◌≡◌, ℕ, ◌^◌, ◌<◌, List, [], ◌∷◌, map, codes, decimal, ◌≢◌}
 use Rattle.std.specs.List.{AllByRecursion}
 use Rattle.shares.specs.declared.request.Request.{Request}
 use Rattle.shares.specs.declared.request.Request.TheVariants.{Table, Nearest, Plan}
@@ -8,13 +8,13 @@ use Rattle.shares.specs.declared.request.Request.TheVariants.{Table, Nearest, Pl
 abbrev pub spelling : Request → List (List ℕ)
 spelling (Table width weight) = codes "table" ∷ decimal width ∷ decimal weight ∷ []
 spelling (Nearest width target limit) = codes "nearest" ∷ decimal width ∷ decimal target ∷ decimal limit ∷ []
-spelling (Plan width capacity targets) = codes "plan" ∷ decimal width ∷ decimal capacity ∷ map decimal (vec_items targets)
+spelling (Plan width capacity targets) = codes "plan" ∷ decimal width ∷ decimal capacity ∷ map decimal targets.items
 
 -- Its numbers are below 2 ^ 32.
 abbrev pub Small : Request → Type 0
 Small (Table width weight) = (width < 2 ^ 32) × (weight < 2 ^ 32)
 Small (Nearest width target limit) = (width < 2 ^ 32) × (target < 2 ^ 32) × (limit < 2 ^ 32)
-Small (Plan width capacity targets) = (width < 2 ^ 32) × (capacity < 2 ^ 32) × AllByRecursion (λ n. n < 2 ^ 32) (vec_items targets)
+Small (Plan width capacity targets) = (width < 2 ^ 32) × (capacity < 2 ^ 32) × AllByRecursion (λ n. n < 2 ^ 32) targets.items
 
 -- The words are those of q; they are those of no request.
 abbrev pub Spelled : List (List ℕ) → Request → Type 0

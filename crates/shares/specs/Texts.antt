@@ -1,5 +1,5 @@
 -- What is printed.
-use Rattle.std.specs.Prelude.{◌≡◌, ℕ, ◌-◌, ◌^◌, List, [], ◌∷◌, ◌++◌, map, length, replicate, Some, None, vec_items, codes, decimal, Option, nat_lt}
+use Rattle.std.specs.Prelude.{◌≡◌, ℕ, ◌-◌, ◌^◌, List, [], ◌∷◌, ◌++◌, map, length, replicate, Some, None, codes, decimal, Option, nat_lt}
 use Rattle.rules.specs.declared.refusal.Refusal.{Refusal}
 use Rattle.rules.specs.declared.refusal.Refusal.TheVariants.{Unreadable, WidthOutOfRange, TagOutOfRange, BeyondWidth, TooManyServices}
 use Rattle.rules.specs.declared.rule.Rule.{Rule}
@@ -84,7 +84,7 @@ plan_answer W R ts None =
 abbrev pub text_of : Request → List ℕ
 text_of (Table W d) = table_answer W d (first (weight_grounds W d))
 text_of (Nearest W c n) = nearest_answer W c n (first (limit_grounds W c n))
-text_of (Plan W R targets) = plan_answer W R (vec_items targets) (first (services_grounds W R (vec_items targets)))
+text_of (Plan W R targets) = plan_answer W R targets.items (first (services_grounds W R targets.items))
 
 -- The answer to a command line: the text of the request that it spells, or that it can't be read.
 pub data Answered (words : List (List ℕ)) (text : List ℕ) : Type 0 where

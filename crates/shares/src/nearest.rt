@@ -1,6 +1,6 @@
 // The text of the nearest weights.
 ghost use Rattle.std.specs.Prelude.{◌≡◌, IfOk, string_bytes};
-ghost use Rattle.plan.specs.Nearest.{nearest as nearest-weight};
+ghost use Rattle.plan.specs.Nearest.{nearest as nearest_weight};
 ghost use Rattle.rules.specs.Grounds.{limit_grounds};
 ghost use Rattle.rules.specs.Refusals.{first, refusal};
 ghost use Rattle.rules.specs.Shortest.{L};
@@ -55,7 +55,7 @@ pub(crate) struct Near {
 // The nearest weight under a measure.
 fn find_near<E: Measure>(measure: &E, width: u32, target: u32, limit: u32) -> Result<Near, Refusal>
     ensures refused { refusal result ≡ first (limit_grounds width target limit) }
-    ensures weight { IfOk result (λ n. n.weight ≡ nearest-weight (E.Measure.miss measure.now) width target limit) }
+    ensures weight { IfOk result (λ n. n.weight ≡ nearest_weight (E.Measure.miss measure.now) width target limit) }
     ensures miss { IfOk result (λ n. n.miss ≡ E.Measure.miss measure.now width target n.weight) }
     ensures rules { IfOk result (λ n. n.rules ≡ L width n.weight) }
 {

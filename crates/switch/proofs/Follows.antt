@@ -151,8 +151,8 @@ module _ (miss : Misses) (W R : ℕ) (ts : List (Option ℕ)) (o : Order) (left 
   next : 0 < left → (w : Write) × (write_at all k ≡ Some w) × (drop k all ≡ w ∷ drop (suc k) all) × (take (suc k) all ≡ take k all ++ (w ∷ [])) × Formed w
   next pos =
       let (w, e, f, g) = pick k all (omega (arith, pos, u.sound.phase.1)) in
-      let formed-all = writes_formed W A B (plan_A miss W R ts o left u.sound).in_range (plan_B miss W R ts o left u.sound).in_range u.sound.high in
-      (w, e, f, g, (subst (λ (ws : List Write). AllByRecursion (λ x. Formed x) ws) f (All-drop (λ x. Formed x) k all formed-all)).0)
+      let formed_all = writes_formed W A B (plan_A miss W R ts o left u.sound).in_range (plan_B miss W R ts o left u.sound).in_range u.sound.high in
+      (w, e, f, g, (subst (λ (ws : List Write). AllByRecursion (λ x. Formed x) ws) f (All-drop (λ x. Formed x) k all formed_all)).0)
 
   abbrev write_next : Option Write
   write_next = cond (eqb left 0) None (write_at all k)
