@@ -8,4 +8,5 @@ pub mod Refusals
 pub mod Servers
 pub mod Shortest
 pub mod Tables
+pub mod Texts
 pub mod Walk

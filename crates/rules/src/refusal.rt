@@ -1,65 +1,63 @@
 // Why a call is refused: one closed list for the whole product.
-ghost use Rattle.std.specs.Prelude.{◌≡◌};
+ghost use Rattle.std.specs.Prelude.{◌≡◌, Some, decimal};
 ghost use Rattle.rules.specs.Refusals.{refusal_number};
 
+use std::error::Error;
+use std::fmt;
+
+// Each is known outside by its number.
 #[derive(Clone, Copy, PartialEq, Eq, Debug)]
 pub enum Refusal {
     // A console line cannot be read, or comes before an accepted making.
-    Unreadable,
+    Unreadable = 1,
     // A fitting names a capacity above the memory's ceiling.
-    AboveCeiling,
+    AboveCeiling = 2,
     // The width is outside 1 to 24.
-    WidthOutOfRange,
+    WidthOutOfRange = 3,
     // A making finds a rule in the memory.
-    MemoryNotEmpty,
+    MemoryNotEmpty = 4,
     // A resting state or a draft meets a change under way, a changing state meets none, or an accepted draft is not what its order gives now.
-    StateMismatch,
+    StateMismatch = 5,
     // A step with none left, or a close with some left.
-    StepsMismatch,
+    StepsMismatch = 6,
     // The tag is above 63.
-    TagOutOfRange,
+    TagOutOfRange = 7,
     // A target or weight above 2^W, or an address of 2^W or more.
-    BeyondWidth,
+    BeyondWidth = 8,
     // An entry names a tag that is registered.
-    AlreadyRegistered,
+    AlreadyRegistered = 9,
     // A reweigh or withdrawal names a tag that is not registered.
-    NotRegistered,
+    NotRegistered = 10,
     // An entry would make more services than the capacity.
-    TooManyServices,
+    TooManyServices = 11,
     // A counted list of more than 1,024 rules, or a rule limit of 0.
-    RuleCountOutOfRange,
+    RuleCountOutOfRange = 12,
     // A rule, prefix or record breaks its layout.
-    BrokenLayout,
+    BrokenLayout = 13,
     // A new prefix while the count is at or above the capacity.
-    MemoryFull,
+    MemoryFull = 14,
     // A step finds nothing at the prefix that it removes.
-    NothingToRemove,
+    NothingToRemove = 15,
     // The output buffer is too short.
-    BufferTooShort,
+    BufferTooShort = 16,
 }
 
 impl Refusal {
-    // The number by which a refusal is known outside.
     pub fn number(self) -> u8
         ensures { result ≡ refusal_number self }
     {
-        match self {
-            Refusal::Unreadable => 1,
-            Refusal::AboveCeiling => 2,
-            Refusal::WidthOutOfRange => 3,
-            Refusal::MemoryNotEmpty => 4,
-            Refusal::StateMismatch => 5,
-            Refusal::StepsMismatch => 6,
-            Refusal::TagOutOfRange => 7,
-            Refusal::BeyondWidth => 8,
-            Refusal::AlreadyRegistered => 9,
-            Refusal::NotRegistered => 10,
-            Refusal::TooManyServices => 11,
-            Refusal::RuleCountOutOfRange => 12,
-            Refusal::BrokenLayout => 13,
-            Refusal::MemoryFull => 14,
-            Refusal::NothingToRemove => 15,
-            Refusal::BufferTooShort => 16,
-        }
+        self as u8
     }
 }
+
+// A refusal is told by its number.
+impl fmt::Display for Refusal {
+    ghost output = { λ why. Some (decimal (refusal_number why)) };
+
+    fn fmt<W: fmt::Write>(&self, f: &mut fmt::Formatter<W>) -> fmt::Result {
+        let number = self.number();
+        write!(f, "{number}")
+    }
+}
+
+impl Error for Refusal {}

@@ -167,3 +167,16 @@ fn refused_lists(rt: HostRuntime) {
         Err(Refusal::BrokenLayout)
     );
 }
+
+#[test]
+fn numbers_and_texts(rt: HostRuntime) -> Result<(), Fail> {
+    assert_eq!(rt; Server::try_from(1), Ok(Server::One));
+    assert_eq!(rt; Server::try_from(2), Ok(Server::Two));
+    assert_eq!(rt; Server::try_from(0), Err(Refusal::BrokenLayout));
+    assert_eq!(rt; Server::try_from(3), Err(Refusal::BrokenLayout));
+    let rule = two(48, 4);
+    assert_eq!(rt; format!(in rt.alloc(); "{rule}")?.as_str(), "48 4 2");
+    let why = Refusal::BufferTooShort;
+    assert_eq!(rt; format!(in rt.alloc(); "{why}")?.as_str(), "16");
+    Ok(())
+}
