@@ -1,4 +1,5 @@
-// Numbers as the product's lines and arguments spell them.
+// What the product's lines and arguments spell: numbers, and refusals.
 #![tactic(auto)]
 
 pub mod number;
+pub mod refused;
