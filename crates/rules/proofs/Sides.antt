@@ -1,5 +1,6 @@
 -- The weights next to a target that so many rules can give. What holds of server 1's addresses holds of server 2's from the other end.
-use Rattle.std.proofs.Common.{◌≡◌, ℕ, zero, suc, ◌+◌, ◌-◌, ◌*◌, ◌/◌, ◌^◌, ◌<◌, ◌≤◌, sym, ap, ◌∙◌, subst, add-mul, one-mul, div-mul-le_self, le_of_mul-le-mul_right, arith, pow_pos, pow-add}
+use Rattle.std.proofs.Common.{◌≡◌, ℕ, zero, suc, ◌+◌, ◌-◌, ◌*◌, ◌/◌, ◌^◌, ◌<◌, ◌≤◌, sym, ap, ◌∙◌, add-mul, one-mul, div-mul-le_self, le_of_mul-le-mul_right, arith, pow_pos, pow-add}
+use native.Mathlib.Decide.{dec_le}
 use native.Mathlib.Nat.{div-eq_of_lt, div-eq_of_lt-le, lt-div-mul-add}
 use Rattle.rules.specs.Digits.{D}
 use Rattle.rules.specs.Nearby.{Lighter, Heavier}
@@ -30,17 +31,6 @@ mirror_floor W c a h k =
 pub floor_le : (a c : ℕ) → floor_to a c ≤ c
 floor_le a c = div-mul-le_self c (2 ^ a)
 
-pub mirror_ceil : (W c a : ℕ) → a ≤ W → c ≤ 2 ^ W → (2 ^ W - ceil_to a c ≡ floor_to a (2 ^ W - c)) × (ceil_to a c ≤ 2 ^ W)
-mirror_ceil W c a h k =
-    let m = mirror_floor W (2 ^ W - c) a h (omega arith) in
-    let e : 2 ^ W - (2 ^ W - c) ≡ c = omega arith in
-    let n : 2 ^ W - floor_to a (2 ^ W - c) ≡ ceil_to a c = m ∙ ap (λ (x : ℕ). ceil_to a x) e in
-    let l : floor_to a (2 ^ W - c) ≤ 2 ^ W - c = floor_le a (2 ^ W - c) in
-    (omega arith, omega arith)
-
-pub ceil_ge : (a c : ℕ) → c ≤ ceil_to a c
-ceil_ge a c = let p = pow_pos a in omega (arith, lt-div-mul-add {a = c + (2 ^ a - 1)} {b = 2 ^ a} p)
-
 -- ---- the next reachable weight
 
 pub lighter_next : (W c n a : ℕ) → a ≤ W → c ≤ 2 ^ W → ((b : ℕ) → b < a → n < L W (floor_to b c))
@@ -60,45 +50,37 @@ lighter_next W c (suc n) a h k f x l u = both
     both : suc n < L W x
     both = omega (arith, ones, twos)
 
-pub heavier_next : (W c n a : ℕ) → a ≤ W → c ≤ 2 ^ W → ((b : ℕ) → b < a → n < L W (ceil_to b c))
-    → (x : ℕ) → c ≤ x → x < ceil_to a c → n < L W x
-unfolding L
-heavier_next W c zero a h k f x l u = omega arith
-heavier_next W c (suc n) a h k f x l u = both
-  where
-    ones : n < D x
-    ones = heavier a c n (λ b t. omega (arith, f b t)) x l u
-
-    twos : n < D (2 ^ W - x)
-    twos = lighter a (2 ^ W - c) n
-        (λ b t. let m = ap D (mirror_ceil W c b (omega arith) k).0 in omega (arith, f b t))
-        (2 ^ W - x) (omega (arith, (mirror_ceil W c a h k).0, (mirror_ceil W c a h k).1)) (omega arith)
-
-    both : suc n < L W x
-    both = omega (arith, ones, twos)
-
 pub lighter_at : (W c n a : ℕ) → a ≤ W → c ≤ 2 ^ W → ((b : ℕ) → b < a → n < L W (floor_to b c)) → L W (floor_to a c) ≤ n → Lighter W c n (floor_to a c)
 lighter_at W c n a h k f s = record { below = floor_le a c; short = s; nearest = lighter_next W c n a h k f }
 
-pub heavier_at : (W c n a : ℕ) → a ≤ W → c ≤ 2 ^ W → ((b : ℕ) → b < a → n < L W (ceil_to b c)) → L W (ceil_to a c) ≤ n → Heavier W c n (ceil_to a c)
-heavier_at W c n a h k f s =
-    record { above = ceil_ge a c; weight = (mirror_ceil W c a h k).1; short = s; nearest = heavier_next W c n a h k f }
+-- At the full width only no addresses or all of them are left, and one rule gives those.
+pub lighter_last : (W c n : ℕ) → c ≤ 2 ^ W → 0 < n → ((b : ℕ) → b < W → n < L W (floor_to b c)) → Lighter W c n (floor_to W c)
+lighter_last W c n k p f = go (dec_le (2 ^ W) c)
+  where
+    go : Dec (2 ^ W ≤ c) → Lighter W c n (floor_to W c)
+    go (yes q) =
+        let e : c ≡ 2 ^ W = omega arith in
+        let z = pow_pos W in
+        let d : c / 2 ^ W ≡ 1 = div-eq_of_lt-le {k = 1} (2 ^ W) (omega (arith, one-mul (2 ^ W))) (omega arith) in
+        let t : floor_to W c ≡ 2 ^ W = ap (λ (i : ℕ). i * 2 ^ W) d ∙ one-mul (2 ^ W) in
+        lighter_at W c n W (omega arith) k f (omega (arith, ap (L W) t, L_all W))
+    go (no q) =
+        let t : floor_to W c ≡ 0 = ap (λ (i : ℕ). i * 2 ^ W) (div-eq_of_lt (omega arith)) ∙ omega arith in
+        lighter_at W c n W (omega arith) k f (omega (arith, ap (L W) t, L_none W))
 
--- ---- at the full width
+-- ---- the other server's side of both
 
-pub lighter_none : (W c n : ℕ) → c < 2 ^ W → 0 < n → ((b : ℕ) → b < W → n < L W (floor_to b c)) → Lighter W c n 0
-lighter_none W c n k p f =
-    let e : floor_to W c ≡ 0 = ap (λ (i : ℕ). i * 2 ^ W) (div-eq_of_lt k) ∙ omega arith in
-    subst (λ (x : ℕ). Lighter W c n x) e (lighter_at W c n W (omega arith) (omega arith) f (omega (arith, ap (L W) e, L_none W)))
+L_mirror : (W d : ℕ) → d ≤ 2 ^ W → L W (2 ^ W - d) ≡ L W d
+unfolding L
+L_mirror W d h = let e : 2 ^ W - (2 ^ W - d) ≡ d = omega arith in omega (arith, ap D e)
 
-pub lighter_all : (W c n : ℕ) → c ≡ 2 ^ W → 0 < n → Lighter W c n c
-lighter_all W c n e p = record { below = omega arith; short = omega (arith, ap (L W) e, L_all W); nearest = λ y l u. absurd (omega arith) }
-
-pub heavier_none : (W c n : ℕ) → c ≡ 0 → 0 < n → Heavier W c n 0
-heavier_none W c n e p = record { above = omega arith; weight = omega arith; short = omega (arith, L_none W); nearest = λ y l u. absurd (omega arith) }
-
-pub heavier_all : (W c n : ℕ) → 0 < c → c ≤ 2 ^ W → 0 < n → ((b : ℕ) → b < W → n < L W (ceil_to b c)) → Heavier W c n (2 ^ W)
-heavier_all W c n z k p f =
-    let q : (c + (2 ^ W - 1)) / 2 ^ W ≡ 1 = div-eq_of_lt-le {k = 1} (2 ^ W) (omega (arith, one-mul (2 ^ W))) (omega arith) in
-    let e : ceil_to W c ≡ 2 ^ W = ap (λ (i : ℕ). i * 2 ^ W) q ∙ one-mul (2 ^ W) in
-    subst (λ (x : ℕ). Heavier W c n x) e (heavier_at W c n W (omega arith) k f (omega (arith, ap (L W) e, L_all W)))
+pub heavier_mirror : (W c n d : ℕ) → c ≤ 2 ^ W → Lighter W (2 ^ W - c) n d → Heavier W c n (2 ^ W - d)
+heavier_mirror W c n d h t =
+    let b = t.below in
+    let s = t.short in
+    record {
+      above = omega arith;
+      weight = omega arith;
+      short = omega (arith, L_mirror W d);
+      nearest = λ x l u. omega (arith, t.nearest (2 ^ W - x) (omega arith) (omega arith), L_mirror W x (omega arith));
+    }

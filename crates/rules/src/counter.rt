@@ -6,10 +6,10 @@ ghost use Rattle.rules.specs.Grounds.{count_grounds};
 ghost use Rattle.rules.specs.Prefixes.{fits, all_fit};
 ghost use Rattle.rules.specs.Refusals.{first, refusal};
 
-use crate::fewest::fewest;
 use crate::refusal::Refusal;
 use crate::rule::Rule;
 use crate::server::Server;
+use crate::weight::Weight;
 use crate::width::{Width, power};
 
 // The addresses of each server and those that no rule matches, and by how many rules the list exceeds the fewest of its weight, where all are matched.
@@ -43,7 +43,11 @@ fn count_all(width: Width, rules: &[Rule]) -> Count
 {
     let shares = count_width(width, rules);
     let excess = if shares.unmatched == 0 {
-        Some(rules.len() as u32 - fewest(width, shares.one))
+        let weight = Weight {
+            width,
+            addresses: shares.one,
+        };
+        Some(rules.len() as u32 - weight.fewest_rules())
     } else {
         None
     };

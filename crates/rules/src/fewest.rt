@@ -1,12 +1,12 @@
 // The fewest rules that give server 1 a weight.
-ghost use Rattle.std.specs.Prelude.{◌≡◌, ◌^◌, ◌≤◌, IfOk};
+ghost use Rattle.std.specs.Prelude.{◌≡◌, IfOk};
 ghost use Rattle.rules.specs.Digits.{D, DigitLaws};
 ghost use Rattle.rules.specs.Grounds.{weight_grounds};
 ghost use Rattle.rules.specs.Refusals.{first, refusal};
 ghost use Rattle.rules.specs.Shortest.{L, LeastRules};
 
 use crate::refusal::Refusal;
-use crate::width::Width;
+use crate::weight::Weight;
 
 // One rule for all addresses and one for each digit of the weight or of its complement, whichever has fewer. No list of rules that leaves no
 // address out gives server 1 this weight with fewer.
@@ -16,17 +16,18 @@ pub fn fewest_rules(width: u32, weight: u32) -> Result<u32, Refusal>
     ensures least { IfOk result (λ n. LeastRules width weight n) }
     ensures digits { DigitLaws }
 {
-    let width = Width::for_weight(width, weight)?;
-    Ok(fewest(width, weight))
+    let weight = Weight::new(width, weight)?;
+    Ok(weight.fewest_rules())
 }
 
-pub(crate) fn fewest(width: Width, weight: u32) -> u32
-    requires { weight ≤ 2 ^ width.bits }
-    ensures { result ≡ L width.bits weight }
-{
-    let ones = digit_count(weight);
-    let twos = digit_count(width.addresses() - weight);
-    1 + ones.min(twos)
+impl Weight {
+    pub fn fewest_rules(self) -> u32
+        ensures { result ≡ L self.width.bits self.addresses }
+    {
+        let ones = digit_count(self.addresses);
+        let twos = digit_count(self.complement().addresses);
+        1 + ones.min(twos)
+    }
 }
 
 // How many digits other than 0 write n in the digits -1, 0 and 1: they stand where 3n and n differ.

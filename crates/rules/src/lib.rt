@@ -11,4 +11,5 @@ pub mod shortest;
 pub mod table;
 #[cfg(test)]
 mod tests;
+pub mod weight;
 pub mod width;

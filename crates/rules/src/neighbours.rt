@@ -1,12 +1,12 @@
 // The weights nearest to a target that a number of rules can give.
-ghost use Rattle.std.specs.Prelude.{◌≡◌, ◌^◌, ◌<◌, ◌≤◌, IfOk};
+ghost use Rattle.std.specs.Prelude.{◌≡◌, ◌*◌, ◌/◌, ◌^◌, ◌<◌, ◌≤◌, IfOk};
 ghost use Rattle.rules.specs.Grounds.{limit_grounds};
 ghost use Rattle.rules.specs.Nearby.{Lighter, Heavier};
 ghost use Rattle.rules.specs.Refusals.{first, refusal};
 
-use crate::fewest::fewest;
 use crate::refusal::Refusal;
-use crate::width::{Width, power};
+use crate::weight::Weight;
+use crate::width::power;
 
 // The nearest lighter and the nearest heavier weight with at most `limit` rules; a target that few enough rules give is both.
 pub fn neighbours(width: u32, target: u32, limit: u32) -> Result<(u32, u32), Refusal>
@@ -14,43 +14,40 @@ pub fn neighbours(width: u32, target: u32, limit: u32) -> Result<(u32, u32), Ref
     ensures lighter { IfOk result (λ pair. Lighter width target limit pair.0) }
     ensures heavier { IfOk result (λ pair. Heavier width target limit pair.1) }
 {
-    let width = Width::for_weight(width, target)?;
+    let target = Weight::new(width, target)?;
     if limit == 0 {
         return Err(Refusal::RuleCountOutOfRange);
     }
-    Ok((lighter(width, target, limit), heavier(width, target, limit)))
+    // What is heavier for server 1 is lighter for server 2.
+    let below = lighter(target, limit);
+    let above = lighter(target.complement(), limit).complement();
+    Ok((below.addresses, above.addresses))
 }
 
-// The target cut to the first multiple of 2^a, a from 0 up, that needs few enough rules: what lies between needs more.
-fn lighter(width: Width, target: u32, limit: u32) -> u32
-    requires { (target ≤ 2 ^ width.bits) × (0 < limit) }
-    ensures { Lighter width.bits target limit result }
+// The weight cut to the first multiple of 2^a, a from 0 up, that needs few enough rules: what lies between needs more.
+fn lighter(target: Weight, limit: u32) -> Weight
+    requires { 0 < limit }
+    ensures width { result.width ≡ target.width }
+    ensures weight { Lighter target.width.bits target.addresses limit result.addresses }
 {
-    for a in 0..width.bits() {
-        let unit = power(a);
-        let cut = target / unit * unit;
-        if fewest(width, cut) <= limit {
-            return cut;
+    for a in 0..target.width.bits() {
+        let weight = cut(target, a);
+        if weight.fewest_rules() <= limit {
+            return weight;
         }
     }
-    if target < width.addresses() {
-        0
-    } else {
-        target
-    }
+    cut(target, target.width.bits())
 }
 
-// The target filled up to such a multiple.
-fn heavier(width: Width, target: u32, limit: u32) -> u32
-    requires { (target ≤ 2 ^ width.bits) × (0 < limit) }
-    ensures { Heavier width.bits target limit result }
+// Cut to a multiple of 2^a.
+fn cut(weight: Weight, a: u32) -> Weight
+    requires { a ≤ weight.width.bits }
+    ensures width { result.width ≡ weight.width }
+    ensures addresses { result.addresses ≡ weight.addresses / 2 ^ a * 2 ^ a }
 {
-    for a in 0..width.bits() {
-        let unit = power(a);
-        let filled = (target + (unit - 1)) / unit * unit;
-        if fewest(width, filled) <= limit {
-            return filled;
-        }
+    let unit = power(a);
+    Weight {
+        width: weight.width,
+        addresses: weight.addresses / unit * unit,
     }
-    if target == 0 { 0 } else { width.addresses() }
 }

@@ -13,7 +13,8 @@ use crate::refusal::Refusal;
 use crate::rule::Rule;
 use crate::server::Server;
 use crate::table::Table;
-use crate::width::{Width, power};
+use crate::weight::Weight;
+use crate::width::power;
 
 // The rules come in the table's set order, and nothing is allocated. Server 1 gets exactly the addresses below the weight, by the longest match, and
 // no list of rules that leaves no address out gives it as many with fewer rules.
@@ -22,32 +23,33 @@ pub fn shortest_table(width: u32, weight: u32) -> Result<Table, Refusal>
     ensures rules { IfOk result (λ t. to_come t ≡ table width weight) }
     ensures shortest { IfOk result (λ t. ShortestTable width weight (to_come t)) }
 {
-    let width = Width::for_weight(width, weight)?;
-    Ok(begin(width, weight))
+    let weight = Weight::new(width, weight)?;
+    Ok(weight.table())
 }
 
-// From below unless the complement has fewer digits.
-fn begin(width: Width, weight: u32) -> Table
-    requires { weight ≤ 2 ^ width.bits }
-    ensures { to_come result ≡ table width.bits weight }
-{
-    let complement = width.addresses() - weight;
-    if digit_count(weight) <= digit_count(complement) {
-        fresh(width, Server::Two, weight)
-    } else {
-        fresh(width, Server::One, complement)
+impl Weight {
+    // From below unless the complement has fewer digits.
+    pub fn table(self) -> Table
+        ensures rules { to_come result ≡ table self.width.bits self.addresses }
+        ensures shortest { ShortestTable self.width.bits self.addresses (to_come result) }
+    {
+        let complement = self.complement();
+        if digit_count(self.addresses) <= digit_count(complement.addresses) {
+            fresh(Server::Two, self)
+        } else {
+            fresh(Server::One, complement)
+        }
     }
 }
 
-fn fresh(width: Width, first: Server, number: u32) -> Table
-    requires { number ≤ 2 ^ width.bits }
-    ensures { to_come result ≡ all_to first ∷ digits_left width.bits first number width.bits }
+fn fresh(first: Server, part: Weight) -> Table
+    ensures { to_come result ≡ all_to first ∷ digits_left part.width.bits first part.addresses part.width.bits }
 {
-    let place = width.bits();
+    let place = part.width.bits();
     Table {
-        width,
+        width: part.width,
         first,
-        number,
+        number: part.addresses,
         place,
         begun: false,
     }

@@ -1,6 +1,6 @@
 // The width: how many bits an address has.
 ghost use Rattle.std.specs.Prelude.{◌≡◌, ◌^◌, ◌≤◌, IfOk};
-ghost use Rattle.rules.specs.Grounds.{width_grounds, weight_grounds};
+ghost use Rattle.rules.specs.Grounds.{width_grounds};
 ghost use Rattle.rules.specs.Refusals.{first, refusal};
 
 use crate::refusal::Refusal;
@@ -23,18 +23,6 @@ impl Width {
             return Err(Refusal::WidthOutOfRange);
         }
         Ok(Width { bits })
-    }
-
-    // Refused outside 1 to 24, and then where the weight or target is above 2^bits.
-    pub fn for_weight(bits: u32, weight: u32) -> Result<Self, Refusal>
-        ensures refused { refusal result ≡ first (weight_grounds bits weight) }
-        ensures kept { IfOk result (λ w. (w.bits ≡ bits) × (weight ≤ 2 ^ bits)) }
-    {
-        let width = Width::new(bits)?;
-        if weight > width.addresses() {
-            return Err(Refusal::BeyondWidth);
-        }
-        Ok(width)
     }
 
     pub fn bits(self) -> u32

@@ -2,8 +2,8 @@ use Rattle.std.proofs.Common.{arith}
 use Rattle.rules.proofs.Blocks.{enough}
 use Rattle.rules.proofs.counter.count_all.Goals as goal
 
-pub fewest-requires : goal.fewest-requires
-fewest-requires c = omega (arith, c.count_width-shares.ensures.all)
+pub invariant_of-weight : goal.invariant_of-weight
+invariant_of-weight c = omega (arith, c.count_width-shares.ensures.all)
 
 pub overflow_sub-excess : goal.overflow_sub-excess
 overflow_sub-excess c =

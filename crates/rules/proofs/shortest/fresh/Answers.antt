@@ -5,4 +5,6 @@ use Rattle.rules.proofs.shortest.fresh.Goals as goal
 
 pub returns : goal.returns
 unfolding to_come
-returns c = ap (λ (p : ℕ). all_to c.args.first ∷ digits_left c.args.width.bits c.args.first c.args.number p) c.bits-place.ensures
+returns c =
+    let d = c.args.part in
+    ap (λ (p : ℕ). all_to c.args.first ∷ digits_left d.width.bits c.args.first d.addresses p) c.bits-place.ensures

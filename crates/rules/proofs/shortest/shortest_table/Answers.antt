@@ -1,15 +1,15 @@
-use Rattle.std.proofs.Common.{ℕ, List, sym, ap, ◌∙◌, subst}
-use Rattle.rules.specs.declared.rule.Rule.{Rule}
+use Rattle.std.proofs.Common.{ℕ, ap₂, ◌∙◌, subst}
 use Rattle.rules.specs.Tables.{table, ShortestTable}
-use Rattle.rules.proofs.Tables.{table_laws}
+use Rattle.rules.specs.Walk.{to_come}
 use Rattle.rules.proofs.shortest.shortest_table.Goals as goal
 
 pub returns : goal.returns
 returns c =
-    let k = c.in_ok-width.ensures in
-    let e = c.begin.ensures ∙ ap (λ (W : ℕ). table W c.args.weight) k.kept.0 in
+    let k = c.in_ok-weight.ensures in
     record {
       refused = k.refused;
-      rules = e;
-      shortest = subst (λ (rs : List Rule). ShortestTable c.args.width c.args.weight rs) (sym e) (table_laws c.args.width c.args.weight k.kept.1);
+      rules = c.table.ensures.rules ∙ ap₂ table k.kept.0 k.kept.1;
+      shortest =
+          subst (λ (d : ℕ). ShortestTable c.args.width d (to_come c.table.result)) k.kept.1
+          (subst (λ (W : ℕ). ShortestTable W c.in_ok-weight.weight.addresses (to_come c.table.result)) k.kept.0 c.table.ensures.shortest);
     }
