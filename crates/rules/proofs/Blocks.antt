@@ -1,14 +1,18 @@
 -- Counting a block of addresses by its halves.
-use Rattle.std.proofs.Common.{◌≡◌, ℕ, zero, suc, ◌+◌, ◌-◌, ◌*◌, ◌^◌, ◌<◌, ◌≤◌, true, false, cond, List, [], ◌∷◌, length, get_or, drop, is_some, Some, None, Option, sym, refl, ap, ◌∙◌, pow-suc, arith, pow_mono}
+use Rattle.std.proofs.Common.{◌≡◌, ℕ, zero, suc, ◌+◌, ◌-◌, ◌*◌, ◌^◌, ◌<◌, ◌≤◌, true, false, ◌&&◌, leb, ltb, nat_le, true≢false, List, [], ◌∷◌, length, get_or, drop, position, length-drop, get_or-drop, is_some, Some, None, Option, sym, refl, ap, ap₂, ◌∙◌, add-zero, arith}
 use native.Mathlib.Decide.{dec_le}
-use Rattle.std.proofs.lemmas.List.{at_drop_more, at_drop_all}
-use Rattle.std.proofs.lemmas.Bool.{and_parts}
+use Rattle.std.proofs.lemmas.List.{at_drop_all}
+use Rattle.std.proofs.lemmas.Bool.{leb-true, ltb-true, le-leb, and_parts, and_from}
 use Rattle.std.proofs.lemmas.Bool.Decides.{nat_tests}
+use Rattle.std.specs.List.{position_or_len}
+use Rattle.std.proofs.lemmas.List.Sums.{fails_before_first}
+use Rattle.std.proofs.lemmas.List.Quantifiers.{position-Some}
+use Rattle.rules.specs.declared.block.Block.{Block}
 use Rattle.rules.specs.declared.counter.Shares.{Shares}
 use Rattle.rules.specs.declared.rule.Rule.{Rule}
 use Rattle.rules.specs.declared.server.Server.{Server}
 use Rattle.rules.specs.declared.server.Server.TheVariants.{One, Two}
-use Rattle.rules.specs.Blocks.{in_block, Shared, Totals}
+use Rattle.rules.specs.Blocks.{in_block, meets, whole_block, Shared, Totals}
 use Rattle.rules.specs.Prefixes.{fits, all_fit, matches, first_match, same, tally, answered, Covers}
 use Rattle.rules.specs.Shortest.{L}
 use Rattle.rules.proofs.Bound.{least_rules}
@@ -64,20 +68,6 @@ block_halves W rs x s m =
     (tally_ext (λ i. same x (first_match W rs (s + (m + i)))) (λ i. same x (first_match W rs (s + m + i))) m
     (λ i k. let e : s + (m + i) ≡ s + m + i = omega arith in ap (λ (a : ℕ). same x (first_match W rs a)) e))
 
--- the halves of the 2 ^ l addresses
-pub double : (l : ℕ) → 0 < l → 2 ^ l ≡ 2 ^ (l - 1) + 2 ^ (l - 1)
-double zero p = absurd (omega arith)
-double (suc l) p = let e : suc l - 1 ≡ l = omega arith in omega (arith, pow-suc 2 l, ap (λ (i : ℕ). 2 ^ i) e)
-
--- the halves of a list that answers alike, added up
-pub block_sum : (W : ℕ) (ps rs : List Rule) (x : Option Server) (s l t a b : ℕ) → 0 < l → t ≡ 2 ^ (l - 1)
-    → ((a : ℕ) → s ≤ a → a < s + 2 ^ l → first_match W ps a ≡ first_match W rs a)
-    → a ≡ in_block W ps x s (2 ^ (l - 1)) → b ≡ in_block W ps x (s + t) (2 ^ (l - 1))
-    → a + b ≡ in_block W rs x s (2 ^ l)
-block_sum W ps rs x s l t a b p e like low high =
-    let h : b ≡ in_block W ps x (s + 2 ^ (l - 1)) (2 ^ (l - 1)) = high ∙ ap (λ (m : ℕ). in_block W ps x (s + m) (2 ^ (l - 1))) e in
-    omega (arith, low, h, block_halves W ps x s (2 ^ (l - 1))) ∙ sym (ap (in_block W ps x s) (double l p)) ∙ block_like W ps rs x s (2 ^ l) like
-
 -- the block of all addresses
 pub block_answered : (W : ℕ) (rs : List Rule) (x : Option Server) → in_block W rs x 0 (2 ^ W) ≡ answered W rs x
 block_answered W rs x =
@@ -102,20 +92,10 @@ all_covered W rs e a h = served (first_match W rs a) (tally_none (λ a. same Non
 
 -- ---- a list from a place on
 
-pub match_step : (W : ℕ) (rs : List Rule) (i : ℕ) (d : Rule) (a : ℕ) → i < length rs
-    → first_match W (drop i rs) a ≡ cond (matches W (get_or rs i d) a) (Some (get_or rs i d).server) (first_match W (drop (i + 1) rs) a)
-match_step W rs i d a h = at_drop_more (λ ps. first_match W ps a) rs i d h
-
-pub match_end : (W : ℕ) (rs : List Rule) (i a : ℕ) → length rs ≤ i → first_match W (drop i rs) a ≡ None
-match_end W rs i a h = at_drop_all (λ ps. first_match W ps a) rs i h
-
-fit_drop : (W i : ℕ) (rs : List Rule) → all_fit W rs ≡ true → all_fit W (drop i rs) ≡ true
-fit_drop W zero rs h = h
-fit_drop W (suc i) [] h = h
-fit_drop W (suc i) (r ∷ rs) h = fit_drop W i rs (and_parts (fits W r) (all_fit W rs) h).1
-
-pub fit_rest : (W i : ℕ) (rs ps : List Rule) → ps ≡ drop i rs → all_fit W rs ≡ true → all_fit W ps ≡ true
-fit_rest W i rs ps e h = ap (all_fit W) e ∙ fit_drop W i rs h
+pub match_first : (W : ℕ) (rs : List Rule) (d : Rule) (a : ℕ) → 0 < length rs → matches W (get_or rs 0 d) a ≡ true
+    → first_match W rs a ≡ Some (get_or rs 0 d).server
+match_first W [] d a h m = absurd (omega arith)
+match_first W (r ∷ rs) d a h m = rw m
 
 pub fit_at : (W i : ℕ) (rs : List Rule) (d : Rule) → i < length rs → all_fit W rs ≡ true → fits W (get_or rs i d) ≡ true
 fit_at W zero [] d h f = absurd (omega arith)
@@ -123,30 +103,116 @@ fit_at W (suc i) [] d h f = absurd (omega arith)
 fit_at W zero (q ∷ rs) d h f = (and_parts (fits W q) (all_fit W rs) f).0
 fit_at W (suc i) (q ∷ rs) d h f = fit_at W i rs d (omega arith) (and_parts (fits W q) (all_fit W rs) f).1
 
--- a rule that reaches over the block matches all of it, and one that does not meet it none
-pub reaches : (W s n : ℕ) (r : Rule) → r.start ≤ s → s + n ≤ r.start + 2 ^ (W - r.length) → (a : ℕ) → s ≤ a → a < s + n → matches W r a ≡ true
-reaches W s n r h k a l m = within_in r.start (2 ^ (W - r.length)) a (omega arith) (omega arith)
+-- a rule that does not meet the block matches none of it, and one that covers it all
+apart : (W s n : ℕ) (r : Rule) (a : ℕ) → meets W s n r ≡ false → s ≤ a → a < s + n → matches W r a ≡ false
+apart W s n r a h lo hi = grind (arith, nat_tests)
 
-pub misses : (W s n : ℕ) (r : Rule) → (r.start < s + n → s < r.start + 2 ^ (W - r.length) → ⊥) → (a : ℕ) → s ≤ a → a < s + n → matches W r a ≡ false
-misses W s n r h a l m = grind (arith, nat_tests)
+-- so the rules ahead of the first that meets it do not matter there
+ahead : (W s n : ℕ) (rs : List Rule) (i : ℕ) (d : Rule) → i ≤ length rs → ((k : ℕ) → k < i → meets W s n (get_or rs k d) ≡ false)
+    → (a : ℕ) → s ≤ a → a < s + n → first_match W (drop i rs) a ≡ first_match W rs a
+ahead W s n rs zero d h f a lo hi = refl
+ahead W s n [] (suc i) d h f a lo hi = absurd (omega arith)
+ahead W s n (r ∷ rs) (suc i) d h f a lo hi =
+    let m = apart W s n r a (f 0 (omega arith)) lo hi in
+    ahead W s n rs i d (omega arith) (λ k l. f (suc k) (omega arith)) a lo hi ∙ rw m
 
--- two halves stay far below what a number can hold
-pub halves_small : (W : ℕ) (ps : List Rule) (x : Option Server) (s t l a b : ℕ) → l ≤ 24 → a ≡ in_block W ps x s (2 ^ (l - 1)) → b ≡ in_block W ps x t (2 ^ (l - 1))
-    → a + b ≤ 2 ^ 25
-halves_small W ps x s t l a b h e f =
-    omega (arith, e, f, block_le W ps x s (2 ^ (l - 1)), block_le W ps x t (2 ^ (l - 1)), pow_mono {i = l - 1} {j = 24} (omega arith))
+pub unmet : (W s n : ℕ) (rs : List Rule) → position (meets W s n) rs ≡ None → (a : ℕ) → s ≤ a → a < s + n → first_match W rs a ≡ None
+unmet W s n rs e a lo hi =
+    let d : Rule = record { start = 0; length = 0; server = One } in
+    let l : length rs ≤ position_or_len (meets W s n) rs = passed e in
+    let f = λ (k : ℕ) (h : k < length rs). fails_before_first (meets W s n) rs k d (omega arith) in
+    sym (ahead W s n rs (length rs) d (omega arith) f a lo hi) ∙ at_drop_all (λ ps. first_match W ps a) rs (length rs) (omega arith)
+  where
+    passed : position (meets W s n) rs ≡ None → length rs ≤ position_or_len (meets W s n) rs
+    passed e = grind (arith, nat_tests)
+
+-- what is known of the rules ps from the first on that meets the block
+pub record Met (W s n : ℕ) (rs ps : List Rule) (d : Rule) : Type 0 where
+  pub some : 0 < length ps
+  pub first : meets W s n (get_or ps 0 d) ≡ true
+  pub alike : (a : ℕ) → s ≤ a → a < s + n → first_match W ps a ≡ first_match W rs a
+
+pub met : (W s n i : ℕ) (rs ps : List Rule) (d : Rule) → position (meets W s n) rs ≡ Some i → ps ≡ drop i rs → Met W s n rs ps d
+met W s n i rs ps d e f =
+    let p = position-Some (meets W s n) rs i d e in
+    let g : get_or ps 0 d ≡ get_or rs i d = ap (λ (qs : List Rule). get_or qs 0 d) f ∙ get_or-drop i rs 0 d ∙ ap (λ (k : ℕ). get_or rs k d) (add-zero i) in
+    record {
+      some = omega (arith, ap (λ (qs : List Rule). length qs) f, length-drop i rs);
+      first = ap (meets W s n) g ∙ p.1;
+      alike = λ a lo hi. ap (λ (qs : List Rule). first_match W qs a) f ∙ ahead W s n rs i d (omega arith) p.2 a lo hi;
+    }
+
+-- the first covers the block, or it does not
+pub decided : (W s n : ℕ) (rs ps : List Rule) (d : Rule) (b : Block) → Met W s n rs ps d
+    → b.start ≡ (get_or ps 0 d).start → b.bits ≡ W - (get_or ps 0 d).length → (nat_le b.start s && nat_le (s + n) (b.start + 2 ^ b.bits)) ≡ true
+    → (a : ℕ) → s ≤ a → a < s + n → first_match W rs a ≡ Some (get_or ps 0 d).server
+decided W s n rs ps d b m e f c a lo hi =
+    let r : Rule = get_or ps 0 d in
+    let t = and_parts (nat_le b.start s) (nat_le (s + n) (b.start + 2 ^ b.bits)) c in
+    let end : 2 ^ b.bits ≡ 2 ^ (W - r.length) = ap (λ (i : ℕ). 2 ^ i) f in
+    let i : matches W r a ≡ true = within_in r.start (2 ^ (W - r.length)) a (omega (arith, leb-true b.start s t.0)) (omega (arith, leb-true _ _ t.1)) in
+    sym (m.alike a lo hi) ∙ match_first W ps d a m.some i
+
+pub undecided : (W s l : ℕ) (rs ps : List Rule) (d : Rule) (b : Block) → Met W s (2 ^ l) rs ps d
+    → b.start ≡ (get_or ps 0 d).start → b.bits ≡ W - (get_or ps 0 d).length → (nat_le b.start s && nat_le (s + 2 ^ l) (b.start + 2 ^ b.bits)) ≡ false
+    → 0 < l
+undecided W s l rs ps d b m e f c = go (dec_le l 0)
+  where
+    r : Rule
+    r = get_or ps 0 d
+
+    t : (ltb r.start (s + 2 ^ l) ≡ true) × (ltb s (r.start + 2 ^ (W - r.length)) ≡ true)
+    t = and_parts (ltb r.start (s + 2 ^ l)) (ltb s (r.start + 2 ^ (W - r.length))) m.first
+
+    go : Dec (l ≤ 0) → 0 < l
+    go (no p) = omega arith
+    go (yes p) =
+        let zero : l ≡ 0 = omega arith in
+        let one : 2 ^ l ≡ 1 = ap (λ (i : ℕ). 2 ^ i) zero in
+        let end : 2 ^ b.bits ≡ 2 ^ (W - r.length) = ap (λ (i : ℕ). 2 ^ i) f in
+        let lo : b.start ≤ s = omega (arith, ltb-true r.start (s + 2 ^ l) t.0) in
+        let hi : s + 2 ^ l ≤ b.start + 2 ^ b.bits = omega (arith, ltb-true s (r.start + 2 ^ (W - r.length)) t.1) in
+        absurd (true≢false (sym (and_from (leb b.start s) (leb (s + 2 ^ l) (b.start + 2 ^ b.bits)) (le-leb b.start s lo) (le-leb _ _ hi)) ∙ c))
+
+-- ---- the shares of a block
+
+pub shared_whole : (W : ℕ) (rs : List Rule) (y : Option Server) (s n m : ℕ) (r : Shares) → r ≡ whole_block y m → m ≡ n
+    → ((a : ℕ) → s ≤ a → a < s + n → first_match W rs a ≡ y) → Shared W rs s n r
+shared_whole W rs y s n m r e f h =
+    let is : (x : Option Server) → same x y * m ≡ in_block W rs x s n = λ x. ap (λ (i : ℕ). same x y * i) f ∙ block_whole W rs x y s n h in
+    record {
+      one = ap (λ (v : Shares). v.one) e ∙ is (Some One);
+      two = ap (λ (v : Shares). v.two) e ∙ is (Some Two);
+      unmatched = ap (λ (v : Shares). v.unmatched) e ∙ is None;
+    }
+
+pub shared_halves : (W : ℕ) (rs ps : List Rule) (s l t u v w : ℕ) (low high : Shares)
+    → ((a : ℕ) → s ≤ a → a < s + 2 ^ l → first_match W ps a ≡ first_match W rs a)
+    → t ≡ s → u ≡ s + 2 ^ v → w ≡ v → 2 ^ l ≡ 2 ^ v + 2 ^ w → Shared W ps t (2 ^ v) low → Shared W ps u (2 ^ w) high
+    → Shared W rs s (2 ^ l) (record { one = low.one + high.one; two = low.two + high.two; unmatched = low.unmatched + high.unmatched })
+shared_halves W rs ps s l t u v w low high like e f g all h k =
+    record { one = sum (Some One) _ _ h.one k.one; two = sum (Some Two) _ _ h.two k.two; unmatched = sum None _ _ h.unmatched k.unmatched }
+  where
+    both : 2 ^ v + 2 ^ v ≡ 2 ^ l
+    both = omega (arith, ap (λ (n : ℕ). 2 ^ n) g)
+
+    sum : (x : Option Server) (a b : ℕ) → a ≡ in_block W ps x t (2 ^ v) → b ≡ in_block W ps x u (2 ^ w) → a + b ≡ in_block W rs x s (2 ^ l)
+    sum x a b i j =
+        let lo : a ≡ in_block W ps x s (2 ^ v) = i ∙ ap (λ (n : ℕ). in_block W ps x n (2 ^ v)) e in
+        let hi : b ≡ in_block W ps x (s + 2 ^ v) (2 ^ v) = j ∙ ap₂ (λ (n m : ℕ). in_block W ps x n (2 ^ m)) f g in
+        omega (arith, lo, hi, block_halves W ps x s (2 ^ v)) ∙ ap (in_block W ps x s) both ∙ block_like W ps rs x s (2 ^ l) like
 
 -- ---- all addresses
 
-pub totals : (W w : ℕ) (rs : List Rule) (r : Shares) → w ≡ W → Shared W rs 0 (2 ^ w) r → Totals W rs r
-totals W w rs r e h =
-    let is : (x : Option Server) → in_block W rs x 0 (2 ^ w) ≡ answered W rs x
-    = λ x. ap (λ (v : ℕ). in_block W rs x 0 (2 ^ v)) e ∙ block_answered W rs x in
+pub totals : (W z w : ℕ) (rs : List Rule) (r : Shares) → z ≡ 0 → w ≡ W → Shared W rs z (2 ^ w) r → Totals W rs r
+totals W z w rs r e f h =
+    let is : (x : Option Server) → in_block W rs x z (2 ^ w) ≡ answered W rs x
+    = λ x. ap₂ (λ (i v : ℕ). in_block W rs x i (2 ^ v)) e f ∙ block_answered W rs x in
     record {
       one = h.one ∙ is (Some One);
       two = h.two ∙ is (Some Two);
       unmatched = h.unmatched ∙ is None;
-      all = omega (arith, h.one, h.two, h.unmatched, block_all W rs 0 (2 ^ w), ap (λ (v : ℕ). 2 ^ v) e);
+      all = omega (arith, h.one, h.two, h.unmatched, block_all W rs z (2 ^ w), ap (λ (v : ℕ). 2 ^ v) f);
     }
 
 -- a list that leaves no address out has at least the fewest rules of its weight

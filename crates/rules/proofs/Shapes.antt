@@ -1,5 +1,5 @@
 -- The layout of a rule, taken apart.
-use Rattle.std.proofs.Common.{◌≡◌, ℕ, ◌-◌, ◌*◌, ◌/◌, ◌%◌, ◌^◌, ◌<◌, ◌≤◌, true, ◌&&◌, eqb, ltb, leb, List, [], ◌∷◌, refl, ap, ◌∙◌, arith}
+use Rattle.std.proofs.Common.{◌≡◌, ℕ, ◌+◌, ◌-◌, ◌*◌, ◌/◌, ◌%◌, ◌^◌, ◌<◌, ◌≤◌, true, ◌&&◌, eqb, ltb, leb, List, [], ◌∷◌, refl, ap, ◌∙◌, mul-le-mul_right, add-mul, one-mul, lt_of_mul-lt-mul_right, arith, pow-add}
 use native.Mathlib.Nat.{mul-mod_left}
 use Rattle.std.specs.List.{AllByRecursion}
 use Rattle.std.proofs.lemmas.Nat.{div-add-mod'}
@@ -22,6 +22,19 @@ shape W r h =
       aligned = (r.start / 2 ^ (W - r.length), omega (arith, z, div-add-mod' r.start (2 ^ (W - r.length))));
       low = ltb-true r.start (2 ^ W) b.0;
     }
+
+-- its addresses end where those of the width do, or before
+pub shape_end : (W : ℕ) (r : Rule) → Shape W r → r.start + 2 ^ (W - r.length) ≤ 2 ^ W
+shape_end W r s =
+    let P : ℕ = 2 ^ (W - r.length) in
+    let V : ℕ = 2 ^ r.length in
+    let m : ℕ = s.aligned.0 in
+    let w : W ≡ r.length + (W - r.length) = omega (arith, s.short) in
+    let all : 2 ^ W ≡ V * P = ap (λ (i : ℕ). 2 ^ i) w ∙ pow-add 2 r.length (W - r.length) in
+    let low : m * P < V * P = omega (arith, s.low, s.aligned.1) in
+    let l : m < V = lt_of_mul-lt-mul_right P low in
+    let n : (m + 1) * P ≤ V * P = mul-le-mul_right P (omega arith) in
+    omega (arith, s.aligned.1, add-mul m 1 P, one-mul P)
 
 pub shape_fits : (W : ℕ) (r : Rule) → Shape W r → fits W r ≡ true
 shape_fits W r s =

@@ -1,7 +1,5 @@
 -- How the counter goes about it: blocks of addresses, cut into halves.
-use Rattle.std.specs.Prelude.{◌≡◌, ℕ, ◌+◌, ◌*◌, ◌^◌, ◌<◌, ◌≤◌, List, length, drop, Some, None, Option}
-use Rattle.rules.specs.declared.counter.Block.{Block}
-use Rattle.rules.specs.declared.counter.Block.TheVariants.{Decided, Cut}
+use Rattle.std.specs.Prelude.{◌≡◌, ℕ, ◌+◌, ◌-◌, ◌*◌, ◌^◌, Bool, ◌&&◌, List, Some, None, Option, nat_lt}
 use Rattle.rules.specs.declared.counter.Shares.{Shares}
 use Rattle.rules.specs.declared.rule.Rule.{Rule}
 use Rattle.rules.specs.declared.server.Server.{Server}
@@ -21,10 +19,9 @@ pub record Shared (W : ℕ) (rs : List Rule) (s n : ℕ) (r : Shares) : Type 0 w
 abbrev pub whole_block : Option Server → ℕ → Shares
 whole_block x n = record { one = same (Some One) x * n; two = same (Some Two) x * n; unmatched = same None x * n }
 
--- The block of 2 ^ l addresses has one answer, or more than one address, and the rules ahead of the place i do not matter in it.
-abbrev pub Seen : ℕ → List Rule → ℕ → ℕ → Block → Type 0
-Seen W rs s l (Decided x) = (a : ℕ) → s ≤ a → a < s + 2 ^ l → first_match W rs a ≡ x
-Seen W rs s l (Cut i) = (0 < l) × (i < length rs) × ((a : ℕ) → s ≤ a → a < s + 2 ^ l → first_match W (drop i rs) a ≡ first_match W rs a)
+-- A rule meets the n addresses from s on.
+abbrev pub meets : ℕ → ℕ → ℕ → Rule → Bool
+meets W s n r = nat_lt r.start (s + n) && nat_lt s (r.start + 2 ^ (W - r.length))
 
 -- The shares of all addresses.
 pub record Totals (W : ℕ) (rs : List Rule) (r : Shares) : Type 0 where

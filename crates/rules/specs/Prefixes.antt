@@ -1,6 +1,6 @@
 -- Prefix rules over the addresses below 2 ^ W, and what a list of them does with an address.
 use Rattle.std.specs.Prelude.{◌≡◌, ℕ, zero, suc, ◌+◌, ◌-◌, ◌%◌, ◌^◌, ◌<◌, ◌≤◌, Bool, true, cond, ◌&&◌, List, [], ◌∷◌, is_some, Some, None, Option, ◌==◌, nat_le, nat_lt}
-use Rattle.std.specs.List.{ContainsAt, AllByRecursion}
+use Rattle.std.specs.List.{ContainsAt, AllByRecursion, list_all}
 use Rattle.rules.specs.declared.rule.Rule.{Rule}
 use Rattle.rules.specs.declared.server.Server.{Server}
 use Rattle.rules.specs.declared.server.Server.TheVariants.{One, Two}
@@ -10,8 +10,7 @@ abbrev pub fits : ℕ → Rule → Bool
 fits W r = nat_le r.length W && (nat_lt r.start (2 ^ W) && r.start % 2 ^ (W - r.length) == 0)
 
 abbrev pub all_fit : ℕ → List Rule → Bool
-all_fit W [] = true
-all_fit W (r ∷ rs) = fits W r && all_fit W rs
+all_fit W rs = list_all (fits W) rs
 
 -- a is one of the n numbers from s on.
 abbrev pub within : ℕ → ℕ → ℕ → Bool

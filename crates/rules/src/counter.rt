@@ -1,16 +1,17 @@
 // The counter: what a list of rules does with all addresses.
-ghost use Rattle.std.specs.Prelude.{◌≡◌, ◌+◌, ◌-◌, ◌^◌, ◌<◌, ◌≤◌, true, length, IfOk};
-ghost use Rattle.rules.specs.Blocks.{Shared, Seen, Totals, whole_block};
+ghost use Rattle.std.specs.Prelude.{◌≡◌, ◌+◌, ◌^◌, ◌≤◌, true, length, position, IfOk};
+ghost use Rattle.rules.specs.Blocks.{Shared, Totals, meets, whole_block};
 ghost use Rattle.rules.specs.Counts.{Counted};
 ghost use Rattle.rules.specs.Grounds.{count_grounds};
-ghost use Rattle.rules.specs.Prefixes.{fits, all_fit};
+ghost use Rattle.rules.specs.Prefixes.{all_fit};
 ghost use Rattle.rules.specs.Refusals.{first, refusal};
 
+use crate::block::Block;
 use crate::refusal::Refusal;
 use crate::rule::Rule;
 use crate::server::Server;
 use crate::weight::Weight;
-use crate::width::{Width, power};
+use crate::width::Width;
 
 // The addresses of each server and those that no rule matches, and by how many rules the list exceeds the fewest of its weight, where all are matched.
 #[derive(Clone, Copy, PartialEq, Eq, Debug)]
@@ -33,29 +34,91 @@ pub fn count_addresses(width: u32, rules: &[Rule]) -> Result<Count, Refusal>
     if !all_fit(width, rules) {
         return Err(Refusal::BrokenLayout);
     }
-    Ok(count_all(width, rules))
+    let list = RuleList { width, rules };
+    Ok(list.count())
 }
 
-fn count_all(width: Width, rules: &[Rule]) -> Count
-    requires few { length rules.now ≤ 1024 }
-    requires fit { all_fit width.bits rules.now ≡ true }
-    ensures { Counted width.bits rules.now result }
+fn all_fit(width: Width, rules: &[Rule]) -> bool
+    ensures { result ≡ all_fit width.bits rules.now }
 {
-    let shares = count_width(width, rules);
-    let excess = if shares.unmatched == 0 {
+    rules.iter().all(|rule| rule.fits(width))
+}
+
+// Rules in the order in which they decide.
+#[derive(Clone, Copy)]
+struct RuleList<'a> {
+    width: Width,
+    rules: &'a [Rule],
+    ghost fit: { all_fit width.bits rules.now ≡ true },
+}
+
+impl<'a> RuleList<'a> {
+    fn count(self) -> Count
+        requires { length self.rules.now ≤ 1024 }
+        ensures { Counted self.entry.width.bits self.entry.rules.now result }
+    {
+        let shares = self.all_shares();
         let weight = Weight {
-            width,
+            width: self.width,
             addresses: shares.one,
         };
-        Some(rules.len() as u32 - weight.fewest_rules())
-    } else {
-        None
-    };
-    Count {
-        one: shares.one,
-        two: shares.two,
-        unmatched: shares.unmatched,
-        excess,
+        let excess = if shares.unmatched == 0 {
+            Some(self.rules.len() as u32 - weight.fewest_rules())
+        } else {
+            None
+        };
+        Count {
+            one: shares.one,
+            two: shares.two,
+            unmatched: shares.unmatched,
+            excess,
+        }
+    }
+
+    // How all addresses of the width are shared out.
+    fn all_shares(self) -> Shares
+        ensures { Totals self.entry.width.bits self.entry.rules.now result }
+    {
+        self.shares(Block {
+            start: 0,
+            bits: self.width.bits(),
+        })
+    }
+
+    // Counts by halves. A block that one rule decides is not cut, and its halves look only at the rules from the first on that meets the block.
+    fn shares(self, block: Block) -> Shares
+        ensures shared { Shared self.entry.width.bits self.entry.rules.now block.start (2 ^ block.bits) result }
+        ensures all { result.one + result.two + result.unmatched ≡ 2 ^ block.bits }
+    {
+        let Some(index) = self.first_meeting(block) else {
+            return whole(None, block.addresses());
+        };
+        let (_, rules) = self.rules.split_at(index);
+        let rule = rules[0];
+        if rule.block(self.width).covers(block) {
+            return whole(Some(rule.server), block.addresses());
+        }
+        let list = RuleList {
+            width: self.width,
+            rules,
+        };
+        let (low, high) = block.halves();
+        let low = list.shares(low);
+        let high = list.shares(high);
+        Shares {
+            one: low.one + high.one,
+            two: low.two + high.two,
+            unmatched: low.unmatched + high.unmatched,
+        }
+    }
+
+    // The place of the first rule that meets the block.
+    fn first_meeting(self, block: Block) -> Option<usize>
+        ensures { result ≡ position (meets self.entry.width.bits block.start (2 ^ block.bits)) self.entry.rules.now }
+    {
+        self.rules
+            .iter()
+            .position(|rule| rule.block(self.width).meets(block))
     }
 }
 
@@ -67,110 +130,26 @@ pub(crate) struct Shares {
     unmatched: u32,
 }
 
-// Counts all addresses of the width.
-fn count_width(width: Width, rules: &[Rule]) -> Shares
-    requires { all_fit width.bits rules.now ≡ true }
-    ensures { Totals width.bits rules.now result }
-{
-    count_block(width, width.bits(), 0, rules)
-}
-
-// Counts the 2^left addresses from `start` on by halves. A block that one rule decides is not cut, and its halves look only at the rules from the
-// first on that meets the block.
-fn count_block(width: Width, left: u32, start: u32, rules: &[Rule]) -> Shares
-    requires narrow { left ≤ width.bits }
-    requires inside { start + 2 ^ left ≤ 2 ^ width.bits }
-    requires fit { all_fit width.bits rules.now ≡ true }
-    ensures { Shared width.bits rules.now start (2 ^ left) result }
-{
-    match see(width, left, start, rules) {
-        Block::Decided(answer) => whole(answer, power(left)),
-        Block::Cut(index) => {
-            let half = left - 1;
-            let (_, rest) = rules.split_at(index);
-            let low = count_block(width, half, start, rest);
-            let high = count_block(width, half, start + power(half), rest);
-            Shares {
-                one: low.one + high.one,
-                two: low.two + high.two,
-                unmatched: low.unmatched + high.unmatched,
-            }
-        }
-    }
-}
-
 fn whole(answer: Option<Server>, addresses: u32) -> Shares
     ensures { result ≡ whole_block answer addresses }
 {
+    let none = Shares {
+        one: 0,
+        two: 0,
+        unmatched: 0,
+    };
     match answer {
         Some(Server::One) => Shares {
             one: addresses,
-            two: 0,
-            unmatched: 0,
+            ..none
         },
         Some(Server::Two) => Shares {
-            one: 0,
             two: addresses,
-            unmatched: 0,
+            ..none
         },
         None => Shares {
-            one: 0,
-            two: 0,
             unmatched: addresses,
+            ..none
         },
     }
-}
-
-// A block has one answer for all its addresses, or a rule inside it, the first that meets it.
-#[derive(Clone, Copy)]
-pub(crate) enum Block {
-    Decided(Option<Server>),
-    Cut(usize),
-}
-
-fn see(width: Width, left: u32, start: u32, rules: &[Rule]) -> Block
-    requires narrow { left ≤ width.bits }
-    requires inside { start + 2 ^ left ≤ 2 ^ width.bits }
-    requires fit { all_fit width.bits rules.now ≡ true }
-    ensures { Seen width.bits rules.now start left result }
-{
-    let end = start + power(left);
-    for (index, rule) in rules.iter().enumerate() {
-        let past = past_rule(width, *rule);
-        if rule.start <= start && end <= past {
-            return Block::Decided(Some(rule.server));
-        }
-        if rule.start < end && start < past {
-            return Block::Cut(index);
-        }
-    }
-    Block::Decided(None)
-}
-
-// The first number behind the rule's addresses.
-fn past_rule(width: Width, rule: Rule) -> u32
-    requires { fits width.bits rule ≡ true }
-    ensures { result ≡ rule.start + 2 ^ (width.bits - rule.length) }
-{
-    rule.start + power(width.bits() - rule.length)
-}
-
-fn all_fit(width: Width, rules: &[Rule]) -> bool
-    ensures { result ≡ all_fit width.bits rules.now }
-{
-    for rule in rules {
-        if !fits(width, *rule) {
-            return false;
-        }
-    }
-    true
-}
-
-fn fits(width: Width, rule: Rule) -> bool
-    ensures { result ≡ fits width.bits rule }
-{
-    if rule.length > width.bits() || rule.start >= width.addresses() {
-        return false;
-    }
-    rule.start % power(width.bits() - rule.length) == 0
 }

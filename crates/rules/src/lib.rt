@@ -1,6 +1,7 @@
 // Prefix rules, and the shortest table that gives server 1 a weight.
 #![tactic(auto)]
 
+mod block;
 pub mod counter;
 pub mod fewest;
 pub mod neighbours;
