@@ -1,14 +1,13 @@
 -- A table's rules one after the other, a digit at a time from the top.
-use Rattle.std.proofs.Common.{◌≡◌, ℕ, zero, suc, ◌+◌, ◌-◌, ◌*◌, ◌%◌, ◌^◌, ◌<◌, ◌≤◌, Bool, true, false, cond, ltb, List, [], ◌∷◌, ◌++◌, take, sym, refl, ap, ◌∙◌, subst, ap₂, append_assoc, append-nil, arith, pow_pos}
+use Rattle.std.proofs.Common.{◌≡◌, ℕ, zero, suc, ◌+◌, ◌-◌, ◌*◌, ◌%◌, ◌^◌, ◌<◌, ◌≤◌, Bool, cond, ltb, List, [], ◌∷◌, ◌++◌, take, sym, refl, ap, ◌∙◌, subst, ap₂, append_assoc, append-nil, arith, pow_pos}
 use Rattle.std.proofs.lemmas.Bool.{lt-ltb, le-ltb, le-leb, lt-leb}
 use Rattle.std.proofs.lemmas.List.{take_all}
 use Rattle.rules.specs.declared.rule.Rule.{Rule}
 use Rattle.rules.specs.declared.server.Server.{Server}
 use Rattle.rules.specs.declared.server.Server.TheVariants.{One, Two}
-use Rattle.rules.specs.declared.table.Table.{Table}
 use Rattle.rules.specs.Digits.{Digit, minus, nought, plus, digit, lowest, rest, after, digits, D}
 use Rattle.rules.specs.Tables.{Term, term, terms, block, all_to, from_below, from_above, table}
-use Rattle.rules.specs.Walk.{end_at, worked, digits_left, left_at, to_come}
+use Rattle.rules.specs.Walk.{end_at, worked, digits_left}
 use Rattle.rules.proofs.Laying.{raise, one_more}
 use Rattle.rules.proofs.Rounding.{after_rest, after_bound}
 use Rattle.rules.proofs.TopDigit.{top_none, short_digits}
@@ -127,10 +126,10 @@ walk W s n p h =
     ∙ ap₂ (λ (i j : ℕ). moved W p i j ++ worked W s j q) (sym u) (sym v)
 
 -- at the place 0 there is nothing left
-pub walked : (W : ℕ) (s : Server) (n : ℕ) → digits_left W s n 0 ≡ []
+pub walked : (W : ℕ) (s : Server) (n p : ℕ) → p ≡ 0 → digits_left W s n p ≡ []
 unfolding digits_left from_below from_above
-walked W One n = refl
-walked W Two n = refl
+walked W One n p e = ap (digits_left W One n) e
+walked W Two n p e = ap (digits_left W Two n) e
 
 -- at the width all is to come
 pub unwalked : (W : ℕ) (s : Server) (n : ℕ) → after W n ≡ 0 → digits_left W s n W ≡ worked W s (end_of W s 0) (terms 0 (digits n))
@@ -161,15 +160,6 @@ module _ (W : ℕ) (s : Server) (n p l old new : ℕ) (h : n ≤ 2 ^ W) (len : l
   walk_stays k =
       by_ends ∙ ap (λ (x : ℕ). moved W p x new ++ digits_left W s n p) k
       ∙ ap (λ (x : List Rule). x ++ digits_left W s n p) (stays W p new)
-
--- what is to come once the rule for all addresses has been given, and before
-pub come_begun : (t : Table) → t.begun ≡ true → to_come t ≡ left_at t t.place
-unfolding to_come
-come_begun t e = ap (λ (b : Bool). cond b [] (all_to t.first ∷ []) ++ left_at t t.place) e
-
-pub come_fresh : (t : Table) → t.begun ≡ false → to_come t ≡ all_to t.first ∷ left_at t t.place
-unfolding to_come
-come_fresh t e = ap (λ (b : Bool). cond b [] (all_to t.first ∷ []) ++ left_at t t.place) e
 
 -- the whole table, from below and from above
 pub table_below : (W d : ℕ) → d ≤ 2 ^ W → D d ≤ D (2 ^ W - d) → all_to Two ∷ digits_left W Two d W ≡ table W d

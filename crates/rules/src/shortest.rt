@@ -45,13 +45,15 @@ impl Weight {
 fn fresh(first: Server, part: Weight) -> Table
     ensures { to_come result ≡ all_to first ∷ digits_left part.width.bits first part.addresses part.width.bits }
 {
-    let place = part.width.bits();
     Table {
-        width: part.width,
+        opening: Some(Rule {
+            start: 0,
+            length: 0,
+            server: first,
+        }),
         first,
-        number: part.addresses,
-        place,
-        begun: false,
+        part,
+        place: part.width.bits(),
     }
 }
 
@@ -62,18 +64,14 @@ impl Iterator for Table {
 
     ghost remaining = { λ t. at_most (length (to_come t)) };
 
+    #[tactic(auto, using(crate::proofs::Walking::walked), unfolding(crate::specs::Walk::to_come))]
     fn next(&mut self) -> Option<Rule> {
-        if !self.begun {
-            self.begun = true;
-            return Some(Rule {
-                start: 0,
-                length: 0,
-                server: self.first,
-            });
+        if let Some(rule) = self.opening.take() {
+            return Some(rule);
         }
-        while self.place > 0 {
-            self.place -= 1;
-            if let Some(rule) = digit_rule(self, self.place) {
+        for place in (0..self.place).rev() {
+            self.place = place;
+            if let Some(rule) = self.digit_rule(place) {
                 return Some(rule);
             }
         }
@@ -81,48 +79,56 @@ impl Iterator for Table {
     }
 }
 
-// The rule of the digit at the place, if it is not 0: it moves the end of server 1's addresses.
-fn digit_rule(table: &Table, place: u32) -> Option<Rule>
-    requires { place < table.now.width.bits }
-    ensures { left_at table.now (place + 1) ≡ option_to_list result ++ left_at table.now place }
-{
-    let old = end(table, place + 1);
-    let new = end(table, place);
-    let length = table.width.bits() - place;
-    if old < new {
-        return Some(Rule {
-            start: old,
-            length,
-            server: Server::One,
-        });
+impl Table {
+    // The rule of the digit at the place, if it is not 0: it moves the end of server 1's addresses.
+    fn digit_rule(&self, place: u32) -> Option<Rule>
+        requires { place < self.now.part.width.bits }
+        ensures { left_at self.now (place + 1) ≡ option_to_list result ++ left_at self.now place }
+    {
+        let old = self.end(place + 1);
+        let new = self.end(place);
+        let length = self.part.width.bits() - place;
+        if old < new {
+            return Some(Rule {
+                start: old,
+                length,
+                server: Server::One,
+            });
+        }
+        if new < old {
+            return Some(Rule {
+                start: new,
+                length,
+                server: Server::Two,
+            });
+        }
+        None
     }
-    if new < old {
-        return Some(Rule {
-            start: new,
-            length,
-            server: Server::Two,
-        });
+
+    // Where server 1's addresses end once the digits from the place up are worked.
+    fn end(&self, place: u32) -> u32
+        requires { place ≤ self.now.part.width.bits }
+        ensures { result ≡ end_at self.now.part.width.bits self.now.first self.now.part.addresses place }
+    {
+        let part = self.part.rounded(place);
+        match self.first {
+            Server::Two => part.addresses,
+            Server::One => part.complement().addresses,
+        }
     }
-    None
 }
 
-// Where server 1's addresses end once the digits from the place up are worked.
-fn end(table: &Table, place: u32) -> u32
-    requires { place ≤ table.now.width.bits }
-    ensures { result ≡ end_at table.now.width.bits table.now.first table.now.number place }
-{
-    let part = rounded(table.number, place);
-    match table.first {
-        Server::Two => part,
-        Server::One => table.width.addresses() - part,
+impl Weight {
+    // What its digits from the place up come to: those of 3n less those of n, one place further up.
+    fn rounded(self, place: u32) -> Self
+        requires { place ≤ self.width.bits }
+        ensures width { result.width ≡ self.width }
+        ensures value { result.addresses ≡ after place self.addresses * 2 ^ place }
+    {
+        let n = self.addresses;
+        Weight {
+            width: self.width,
+            addresses: (((3 * n) >> (place + 1)) - (n >> (place + 1))) * power(place),
+        }
     }
-}
-
-// What the digits of n from the place up come to: those of 3n less those of n, one place further up.
-fn rounded(n: u32, place: u32) -> u32
-    requires { (n ≤ 2 ^ 24) × (place ≤ 24) }
-    ensures value { result ≡ after place n * 2 ^ place }
-    ensures bound { (W : ℕ) → n ≤ 2 ^ W → result ≤ 2 ^ W }
-{
-    (((3 * n) >> (place + 1)) - (n >> (place + 1))) * power(place)
 }

@@ -1,18 +1,17 @@
 // The state from which a table's rules come one after the other.
-ghost use Rattle.std.specs.Prelude.{◌^◌, ◌≤◌};
+ghost use Rattle.std.specs.Prelude.{◌≤◌};
 
+use crate::rule::Rule;
 use crate::server::Server;
-use crate::width::Width;
+use crate::weight::Weight;
 
-// The rule for all addresses comes first, to server `first`. Then the digits of `number` are worked, those below `place` being still to come:
-// `number` is the weight where all addresses go to server 2 at first, and its complement where they go to server 1.
+// The opening rule, for all addresses to server `first`, comes first. Then the digits of `part` are worked, those below `place` being still to come:
+// `part` is server 1's part where all addresses go to server 2 at first, and server 2's where they go to server 1.
 #[derive(Clone, Copy)]
 pub struct Table {
-    pub(crate) width: Width,
+    pub(crate) opening: Option<Rule>,
     pub(crate) first: Server,
-    pub(crate) number: u32,
+    pub(crate) part: Weight,
     pub(crate) place: u32,
-    pub(crate) begun: bool,
-    ghost inside: { number ≤ 2 ^ width.bits },
-    ghost low: { place ≤ width.bits },
+    ghost low: { place ≤ part.width.bits },
 }

@@ -7,4 +7,4 @@ pub returns : goal.returns
 unfolding to_come
 returns c =
     let d = c.args.part in
-    ap (λ (p : ℕ). all_to c.args.first ∷ digits_left d.width.bits c.args.first d.addresses p) c.bits-place.ensures
+    ap (λ (p : ℕ). all_to c.args.first ∷ digits_left d.width.bits c.args.first d.addresses p) c.bits.ensures
