@@ -1,5 +1,5 @@
 -- The weights next to a target that so many rules can give. What holds of server 1's addresses holds of server 2's from the other end.
-use Rattle.std.proofs.Common.{◌≡◌, ℕ, zero, suc, ◌+◌, ◌-◌, ◌*◌, ◌/◌, ◌^◌, ◌<◌, ◌≤◌, sym, ap, ◌∙◌, add-mul, one-mul, div-mul-le_self, le_of_mul-le-mul_right, arith, pow_pos, pow-add}
+use Rattle.std.proofs.Common.{◌≡◌, ℕ, zero, suc, ◌+◌, ◌-◌, ◌*◌, ◌/◌, ◌^◌, ◌<◌, ◌≤◌, Some, None, Option, MatchOption, unwrap_or, sym, ap, ◌∙◌, subst, add-mul, one-mul, div-mul-le_self, le_of_mul-le-mul_right, arith, pow_pos, pow-add}
 use native.Mathlib.Decide.{dec_le}
 use native.Mathlib.Nat.{div-eq_of_lt, div-eq_of_lt-le, lt-div-mul-add}
 use Rattle.rules.specs.Digits.{D}
@@ -67,6 +67,23 @@ lighter_last W c n k p f = go (dec_le (2 ^ W) c)
     go (no q) =
         let t : floor_to W c ≡ 0 = ap (λ (i : ℕ). i * 2 ^ W) (div-eq_of_lt (omega arith)) ∙ omega arith in
         lighter_at W c n W (omega arith) k f (omega (arith, ap (L W) t, L_none W))
+
+-- whether few enough rules give the number cut at the place a
+abbrev pub Short : ℕ → ℕ → ℕ → ℕ → Type 0
+Short W c n a = L W (floor_to a c) ≤ n
+
+abbrev pub Long : ℕ → ℕ → ℕ → ℕ → Type 0
+Long W c n a = n < L W (floor_to a c)
+
+-- cut at the first place where they do, or else at the full width
+pub lighter_found : (W c n m a : ℕ) (o : Option ℕ) → c ≤ 2 ^ W → 0 < n → m ≡ W → a ≡ unwrap_or o m
+    → MatchOption o ((k : ℕ) → 0 ≤ k → k < m → Long W c n k) (λ i. (0 ≤ i) × (i < m) × Short W c n i × ((k : ℕ) → 0 ≤ k → k < i → Long W c n k))
+    → (a ≤ W) × Lighter W c n (floor_to a c)
+lighter_found W c n m a None h p e f all =
+    let q : W ≡ a = omega arith in
+    (omega arith, subst (λ (i : ℕ). Lighter W c n (floor_to i c)) q (lighter_last W c n h p (λ b t. all b (omega arith) (omega arith))))
+lighter_found W c n m a (Some i) h p e f t =
+    (omega arith, subst (λ (j : ℕ). Lighter W c n (floor_to j c)) (sym f) (lighter_at W c n i (omega arith) h (λ b l. t.3 b (omega arith) l) t.2))
 
 -- ---- the other server's side of both
 

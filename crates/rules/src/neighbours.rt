@@ -19,35 +19,34 @@ pub fn neighbours(width: u32, target: u32, limit: u32) -> Result<(u32, u32), Ref
         return Err(Refusal::RuleCountOutOfRange);
     }
     // What is heavier for server 1 is lighter for server 2.
-    let below = lighter(target, limit);
-    let above = lighter(target.complement(), limit).complement();
+    let below = target.lighter(limit);
+    let above = target.complement().lighter(limit).complement();
     Ok((below.addresses, above.addresses))
 }
 
-// The weight cut to the first multiple of 2^a, a from 0 up, that needs few enough rules: what lies between needs more.
-fn lighter(target: Weight, limit: u32) -> Weight
-    requires { 0 < limit }
-    ensures width { result.width ≡ target.width }
-    ensures weight { Lighter target.width.bits target.addresses limit result.addresses }
-{
-    for a in 0..target.width.bits() {
-        let weight = cut(target, a);
-        if weight.fewest_rules() <= limit {
-            return weight;
-        }
+impl Weight {
+    // The weight cut to the first multiple of 2^a, a from 0 up, that needs few enough rules: what lies between needs more. At the full width one rule
+    // is enough.
+    fn lighter(self, limit: u32) -> Self
+        requires { 0 < limit }
+        ensures width { result.width ≡ self.width }
+        ensures weight { Lighter self.width.bits self.addresses limit result.addresses }
+    {
+        let most = self.width.bits();
+        let a = (0..most).find(|a| self.cut(*a).fewest_rules() <= limit);
+        self.cut(a.unwrap_or(most))
     }
-    cut(target, target.width.bits())
-}
 
-// Cut to a multiple of 2^a.
-fn cut(weight: Weight, a: u32) -> Weight
-    requires { a ≤ weight.width.bits }
-    ensures width { result.width ≡ weight.width }
-    ensures addresses { result.addresses ≡ weight.addresses / 2 ^ a * 2 ^ a }
-{
-    let unit = power(a);
-    Weight {
-        width: weight.width,
-        addresses: weight.addresses / unit * unit,
+    // Cut to a multiple of 2^a.
+    fn cut(self, a: u32) -> Self
+        requires { a ≤ self.width.bits }
+        ensures width { result.width ≡ self.width }
+        ensures addresses { result.addresses ≡ self.addresses / 2 ^ a * 2 ^ a }
+    {
+        let unit = power(a);
+        Weight {
+            width: self.width,
+            addresses: self.addresses / unit * unit,
+        }
     }
 }
