@@ -1,5 +1,5 @@
 -- A table's rules one after the other, a digit at a time from the top.
-use Rattle.std.proofs.Common.{◌≡◌, ℕ, zero, suc, ◌+◌, ◌-◌, ◌*◌, ◌%◌, ◌^◌, ◌<◌, ◌≤◌, Bool, cond, ltb, List, [], ◌∷◌, ◌++◌, take, sym, refl, ap, ◌∙◌, subst, ap₂, append_assoc, append-nil, arith, pow_pos}
+use Rattle.std.proofs.Common.{◌≡◌, ℕ, zero, suc, ◌+◌, ◌-◌, ◌*◌, ◌%◌, ◌^◌, ◌<◌, ◌≤◌, min, Bool, cond, ltb, List, [], ◌∷◌, ◌++◌, take, sym, refl, ap, ◌∙◌, subst, ap₂, append_assoc, append-nil, arith, pow_pos}
 use Rattle.std.proofs.lemmas.Bool.{lt-ltb, le-ltb, le-leb, lt-leb}
 use Rattle.std.proofs.lemmas.List.{take_all}
 use Rattle.rules.specs.declared.rule.Rule.{Rule}
@@ -146,15 +146,20 @@ module _ (W : ℕ) (s : Server) (n p l old new : ℕ) (h : n ≤ 2 ^ W) (len : l
       ap (digits_left W s n) e ∙ walk W s n p h
       ∙ ap₂ (λ (i j : ℕ). moved W p i j ++ digits_left W s n p) (sym (u ∙ ap (end_at W s n) e)) (sym v)
 
-  pub walk_rises : old < new → digits_left W s n (p + 1) ≡ record { start = old; length = l; server = One } ∷ digits_left W s n p
-  walk_rises k =
-      by_ends ∙ ap (λ (x : List Rule). x ++ digits_left W s n p) (rises W p old new k)
-      ∙ ap (λ (i : ℕ). record { start = old; length = i; server = One } ∷ digits_left W s n p) (sym len)
+  given : (i : ℕ) (x : Server) (o : ℕ) (y : Server) → moved W p old new ≡ block W o p y ∷ [] → i ≡ o → x ≡ y
+      → digits_left W s n (p + 1) ≡ record { start = i; length = l; server = x } ∷ digits_left W s n p
+  given i x o y m e f =
+      by_ends ∙ ap (λ (q : List Rule). q ++ digits_left W s n p) m
+      ∙ ap (λ (r : Rule). r ∷ digits_left W s n p)
+      (ap₂ (λ (a b : ℕ). record { start = a; length = b; server = y }) (sym e) (sym len) ∙ ap (λ (z : Server). record { start = i; length = l; server = z }) (sym f))
 
-  pub walk_falls : new < old → digits_left W s n (p + 1) ≡ record { start = new; length = l; server = Two } ∷ digits_left W s n p
-  walk_falls k =
-      by_ends ∙ ap (λ (x : List Rule). x ++ digits_left W s n p) (falls W p old new k)
-      ∙ ap (λ (i : ℕ). record { start = new; length = i; server = Two } ∷ digits_left W s n p) (sym len)
+  pub walk_rises : (i : ℕ) (x : Server) → old < new → i ≡ min old new → x ≡ One
+      → digits_left W s n (p + 1) ≡ record { start = i; length = l; server = x } ∷ digits_left W s n p
+  walk_rises i x k e f = given i x old One (rises W p old new k) (omega arith) f
+
+  pub walk_falls : (i : ℕ) (x : Server) → new < old → i ≡ min old new → x ≡ Two
+      → digits_left W s n (p + 1) ≡ record { start = i; length = l; server = x } ∷ digits_left W s n p
+  walk_falls i x k e f = given i x new Two (falls W p old new k) (omega arith) f
 
   pub walk_stays : old ≡ new → digits_left W s n (p + 1) ≡ digits_left W s n p
   walk_stays k =

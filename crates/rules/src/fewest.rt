@@ -24,16 +24,16 @@ impl Weight {
     pub fn fewest_rules(self) -> u32
         ensures { result ≡ L self.width.bits self.addresses }
     {
-        let ones = digit_count(self.addresses);
-        let twos = digit_count(self.complement().addresses);
+        let ones = self.digit_count();
+        let twos = self.complement().digit_count();
         1 + ones.min(twos)
     }
-}
 
-// How many digits other than 0 write n in the digits -1, 0 and 1: they stand where 3n and n differ.
-pub(crate) fn digit_count(n: u32) -> u32
-    ensures { result ≡ D n }
-{
-    let n = u64::from(n);
-    ((3 * n) ^ n).count_ones()
+    // How many digits other than 0 write it in the digits -1, 0 and 1: they stand where 3n and n differ.
+    pub(crate) fn digit_count(self) -> u32
+        ensures { result ≡ D self.addresses }
+    {
+        let n = self.addresses;
+        ((3 * n) ^ n).count_ones()
+    }
 }

@@ -8,13 +8,13 @@ ghost use Rattle.rules.specs.Tables.{all_to, table, ShortestTable};
 ghost use Rattle.rules.specs.Walk.{end_at, digits_left, left_at, to_come, Gives};
 ghost use Rattle.std.specs.Iterator.{at_most};
 
-use crate::fewest::digit_count;
 use crate::refusal::Refusal;
 use crate::rule::Rule;
 use crate::server::Server;
 use crate::table::Table;
 use crate::weight::Weight;
 use crate::width::power;
+use std::cmp::Ordering;
 
 // The rules come in the table's set order, and nothing is allocated. Server 1 gets exactly the addresses below the weight, by the longest match, and
 // no list of rules that leaves no address out gives it as many with fewer rules.
@@ -34,7 +34,7 @@ impl Weight {
         ensures shortest { ShortestTable self.width.bits self.addresses (to_come result) }
     {
         let complement = self.complement();
-        if digit_count(self.addresses) <= digit_count(complement.addresses) {
+        if self.digit_count() <= complement.digit_count() {
             fresh(Server::Two, self)
         } else {
             fresh(Server::One, complement)
@@ -87,22 +87,16 @@ impl Table {
     {
         let old = self.end(place + 1);
         let new = self.end(place);
-        let length = self.part.width.bits() - place;
-        if old < new {
-            return Some(Rule {
-                start: old,
-                length,
-                server: Server::One,
-            });
-        }
-        if new < old {
-            return Some(Rule {
-                start: new,
-                length,
-                server: Server::Two,
-            });
-        }
-        None
+        let server = match old.cmp(&new) {
+            Ordering::Less => Server::One,
+            Ordering::Greater => Server::Two,
+            Ordering::Equal => return None,
+        };
+        Some(Rule {
+            start: old.min(new),
+            length: self.part.width.bits() - place,
+            server,
+        })
     }
 
     // Where server 1's addresses end once the digits from the place up are worked.

@@ -4,24 +4,16 @@ use crate::fewest::fewest_rules;
 use crate::neighbours::neighbours;
 use crate::refusal::Refusal;
 use crate::rule::Rule;
-use crate::server::Server;
+use crate::server::Server::{self, One, Two};
 use crate::shortest::shortest_table;
 use std::process::Abort;
 use std::test::Fail;
 
-fn one(start: u32, length: u32) -> Rule {
+fn rule(server: Server, start: u32, length: u32) -> Rule {
     Rule {
         start,
         length,
-        server: Server::One,
-    }
-}
-
-fn two(start: u32, length: u32) -> Rule {
-    Rule {
-        start,
-        length,
-        server: Server::Two,
+        server,
     }
 }
 
@@ -37,29 +29,40 @@ fn is_table(rt: &impl Abort, width: u32, weight: u32, expected: &[Rule]) -> Resu
 
 #[test]
 fn shortest_tables(rt: HostRuntime) -> Result<(), Fail> {
-    is_table(&rt, 5, 15, &[two(0, 0), one(0, 1), two(15, 5)])?;
+    is_table(
+        &rt,
+        5,
+        15,
+        &[rule(Two, 0, 0), rule(One, 0, 1), rule(Two, 15, 5)],
+    )?;
     is_table(
         &rt,
         8,
         51,
-        &[two(0, 0), one(0, 2), two(48, 4), one(48, 6), two(51, 8)],
+        &[
+            rule(Two, 0, 0),
+            rule(One, 0, 2),
+            rule(Two, 48, 4),
+            rule(One, 48, 6),
+            rule(Two, 51, 8),
+        ],
     )?;
     is_table(
         &rt,
         8,
         205,
         &[
-            one(0, 0),
-            two(192, 2),
-            one(192, 4),
-            two(204, 6),
-            one(204, 8),
+            rule(One, 0, 0),
+            rule(Two, 192, 2),
+            rule(One, 192, 4),
+            rule(Two, 204, 6),
+            rule(One, 204, 8),
         ],
     )?;
-    is_table(&rt, 8, 0, &[two(0, 0)])?;
-    is_table(&rt, 8, 256, &[one(0, 0)])?;
-    is_table(&rt, 8, 128, &[two(0, 0), one(0, 1)])?;
-    is_table(&rt, 8, 255, &[one(0, 0), two(255, 8)])
+    is_table(&rt, 8, 0, &[rule(Two, 0, 0)])?;
+    is_table(&rt, 8, 256, &[rule(One, 0, 0)])?;
+    is_table(&rt, 8, 128, &[rule(Two, 0, 0), rule(One, 0, 1)])?;
+    is_table(&rt, 8, 255, &[rule(One, 0, 0), rule(Two, 255, 8)])
 }
 
 #[test]
@@ -98,7 +101,13 @@ fn counts(rt: HostRuntime) {
     // The table of 51 from the longest prefix on, and from the shortest, where all but the first rule are dead.
     is_count(
         &rt,
-        &[two(51, 8), one(48, 6), two(48, 4), one(0, 2), two(0, 0)],
+        &[
+            rule(Two, 51, 8),
+            rule(One, 48, 6),
+            rule(Two, 48, 4),
+            rule(One, 0, 2),
+            rule(Two, 0, 0),
+        ],
         51,
         205,
         0,
@@ -106,17 +115,35 @@ fn counts(rt: HostRuntime) {
     );
     is_count(
         &rt,
-        &[two(0, 0), one(0, 2), two(48, 4), one(48, 6), two(51, 8)],
+        &[
+            rule(Two, 0, 0),
+            rule(One, 0, 2),
+            rule(Two, 48, 4),
+            rule(One, 48, 6),
+            rule(Two, 51, 8),
+        ],
         0,
         256,
         0,
         Some(4),
     );
     // A gap, a rule that stands twice, no rule.
-    is_count(&rt, &[one(0, 2), two(128, 1)], 64, 128, 64, None);
     is_count(
         &rt,
-        &[one(0, 1), two(0, 1), one(0, 1), two(128, 1)],
+        &[rule(One, 0, 2), rule(Two, 128, 1)],
+        64,
+        128,
+        64,
+        None,
+    );
+    is_count(
+        &rt,
+        &[
+            rule(One, 0, 1),
+            rule(Two, 0, 1),
+            rule(One, 0, 1),
+            rule(Two, 128, 1),
+        ],
         128,
         128,
         0,
@@ -142,39 +169,34 @@ fn refused_widths_and_weights(rt: HostRuntime) {
 
 #[test]
 fn refused_lists(rt: HostRuntime) {
-    let many = [one(0, 0); 1025];
+    let many = [rule(One, 0, 0); 1025];
     assert_eq!(rt; count_addresses(0, &many), Err(Refusal::WidthOutOfRange));
     assert_eq!(rt;
         count_addresses(8, &many),
         Err(Refusal::RuleCountOutOfRange)
     );
-    let most = [one(0, 0); 1024];
+    let most = [rule(One, 0, 0); 1024];
     is_count(&rt, &most, 256, 0, 0, Some(1023));
     assert_eq!(rt;
-        count_addresses(8, &[two(0, 0), one(32, 2)]),
+        count_addresses(8, &[rule(Two, 0, 0), rule(One, 32, 2)]),
         Err(Refusal::BrokenLayout)
     );
-    assert_eq!(rt;
-        count_addresses(8, &[one(0, 9)]),
-        Err(Refusal::BrokenLayout)
-    );
-    assert_eq!(rt;
-        count_addresses(8, &[one(256, 8)]),
-        Err(Refusal::BrokenLayout)
-    );
-    assert_eq!(rt;
-        count_addresses(8, &[one(4_294_967_295, 4_294_967_295)]),
-        Err(Refusal::BrokenLayout)
-    );
+    for broken in [
+        rule(One, 0, 9),
+        rule(One, 256, 8),
+        rule(One, 4_294_967_295, 4_294_967_295),
+    ] {
+        assert_eq!(rt; count_addresses(8, &[broken]), Err(Refusal::BrokenLayout));
+    }
 }
 
 #[test]
 fn numbers_and_texts(rt: HostRuntime) -> Result<(), Fail> {
-    assert_eq!(rt; Server::try_from(1), Ok(Server::One));
-    assert_eq!(rt; Server::try_from(2), Ok(Server::Two));
+    assert_eq!(rt; Server::try_from(1), Ok(One));
+    assert_eq!(rt; Server::try_from(2), Ok(Two));
     assert_eq!(rt; Server::try_from(0), Err(Refusal::BrokenLayout));
     assert_eq!(rt; Server::try_from(3), Err(Refusal::BrokenLayout));
-    let rule = two(48, 4);
+    let rule = rule(Two, 48, 4);
     assert_eq!(rt; format!(in rt.alloc(); "{rule}")?.as_str(), "48 4 2");
     let why = Refusal::BufferTooShort;
     assert_eq!(rt; format!(in rt.alloc(); "{why}")?.as_str(), "16");

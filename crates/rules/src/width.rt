@@ -11,6 +11,8 @@ pub struct Width {
     bits: u32,
     ghost some: { 1 ≤ bits },
     ghost most: { bits ≤ 24 },
+    // Follows from the one before, and stands here so that proofs have it at hand.
+    ghost small: { 2 ^ bits ≤ 2 ^ 24 },
 }
 
 impl Width {
