@@ -13,7 +13,7 @@ use Rattle.rules.specs.declared.rule.Rule.{Rule}
 use Rattle.rules.specs.declared.server.Server.{Server}
 use Rattle.rules.specs.declared.server.Server.TheVariants.{One, Two}
 use Rattle.rules.specs.Blocks.{in_block, meets, whole_block, Shared, Totals}
-use Rattle.rules.specs.Prefixes.{fits, all_fit, matches, first_match, same, tally, answered, Covers}
+use Rattle.rules.specs.Prefixes.{all_fit, matches, first_match, same, tally, answered, Covers}
 use Rattle.rules.specs.Shortest.{L}
 use Rattle.rules.proofs.Bound.{least_rules}
 use Rattle.rules.proofs.Tallies.{tally_ext, tally_split, within_in}
@@ -33,18 +33,9 @@ same_le (Some One) (Some Two) = omega arith
 same_le (Some Two) (Some One) = omega arith
 same_le (Some Two) (Some Two) = omega arith
 
-same_all : (y : Option Server) → same (Some One) y + same (Some Two) y + same None y ≡ 1
-same_all None = refl
-same_all (Some One) = refl
-same_all (Some Two) = refl
-
 pub block_le : (W : ℕ) (rs : List Rule) (x : Option Server) (s n : ℕ) → in_block W rs x s n ≤ n
 block_le W rs x s zero = omega arith
 block_le W rs x s (suc n) = omega (arith, block_le W rs x s n, same_le x (first_match W rs (s + n)))
-
-pub block_all : (W : ℕ) (rs : List Rule) (s n : ℕ) → in_block W rs (Some One) s n + in_block W rs (Some Two) s n + in_block W rs None s n ≡ n
-block_all W rs s zero = refl
-block_all W rs s (suc n) = omega (arith, block_all W rs s n, same_all (first_match W rs (s + n)))
 
 -- one answer for all
 pub block_whole : (W : ℕ) (rs : List Rule) (x y : Option Server) (s n : ℕ) → ((a : ℕ) → s ≤ a → a < s + n → first_match W rs a ≡ y)
@@ -96,12 +87,6 @@ pub match_first : (W : ℕ) (rs : List Rule) (d : Rule) (a : ℕ) → 0 < length
     → first_match W rs a ≡ Some (get_or rs 0 d).server
 match_first W [] d a h m = absurd (omega arith)
 match_first W (r ∷ rs) d a h m = rw m
-
-pub fit_at : (W i : ℕ) (rs : List Rule) (d : Rule) → i < length rs → all_fit W rs ≡ true → fits W (get_or rs i d) ≡ true
-fit_at W zero [] d h f = absurd (omega arith)
-fit_at W (suc i) [] d h f = absurd (omega arith)
-fit_at W zero (q ∷ rs) d h f = (and_parts (fits W q) (all_fit W rs) f).0
-fit_at W (suc i) (q ∷ rs) d h f = fit_at W i rs d (omega arith) (and_parts (fits W q) (all_fit W rs) f).1
 
 -- a rule that does not meet the block matches none of it, and one that covers it all
 apart : (W s n : ℕ) (r : Rule) (a : ℕ) → meets W s n r ≡ false → s ≤ a → a < s + n → matches W r a ≡ false
@@ -203,17 +188,6 @@ shared_halves W rs ps s l t u v w low high like e f g all h k =
         omega (arith, lo, hi, block_halves W ps x s (2 ^ v)) ∙ ap (in_block W ps x s) both ∙ block_like W ps rs x s (2 ^ l) like
 
 -- ---- all addresses
-
-pub totals : (W z w : ℕ) (rs : List Rule) (r : Shares) → z ≡ 0 → w ≡ W → Shared W rs z (2 ^ w) r → Totals W rs r
-totals W z w rs r e f h =
-    let is : (x : Option Server) → in_block W rs x z (2 ^ w) ≡ answered W rs x
-    = λ x. ap₂ (λ (i v : ℕ). in_block W rs x i (2 ^ v)) e f ∙ block_answered W rs x in
-    record {
-      one = h.one ∙ is (Some One);
-      two = h.two ∙ is (Some Two);
-      unmatched = h.unmatched ∙ is None;
-      all = omega (arith, h.one, h.two, h.unmatched, block_all W rs z (2 ^ w), ap (λ (v : ℕ). 2 ^ v) f);
-    }
 
 -- a list that leaves no address out has at least the fewest rules of its weight
 pub enough : (W : ℕ) (rs : List Rule) (r : Shares) → all_fit W rs ≡ true → Totals W rs r → r.unmatched ≡ 0 → L W r.one ≤ length rs

@@ -72,6 +72,3 @@ after_is (suc p) n =
     ∙ ap (λ (x : ℕ). x - n / 2 ^ (p + 1) / 2) (shr-shr (3 * n) (p + 1) 1)
     ∙ ap (λ (x : ℕ). 3 * n / 2 ^ (p + 1 + 1) - x) (shr-shr n (p + 1) 1)
     ∙ ap (λ (i : ℕ). 3 * n / 2 ^ i - n / 2 ^ i) (omega arith)
-
-pub after_order : (p n : ℕ) → n / 2 ^ (p + 1) ≤ 3 * n / 2 ^ (p + 1)
-after_order p n = omega (arith, thirds n (2 ^ (p + 1)) (pow_pos (p + 1)))

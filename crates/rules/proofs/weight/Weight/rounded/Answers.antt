@@ -1,25 +1,10 @@
-use Rattle.std.proofs.Common.{◌≡◌, ℕ, ◌+◌, ◌-◌, ◌*◌, ◌/◌, ◌^◌, sym, ap₂, arith, pow_mono}
+use Rattle.std.proofs.Common.{◌≡◌, ℕ, ◌+◌, ◌-◌, ◌*◌, ◌/◌, ◌^◌, sym, ap₂, arith}
 use Rattle.rules.specs.Digits.{after}
 use Rattle.rules.proofs.Rounding.{after_is, after_bound}
 use Rattle.rules.proofs.weight.Weight.rounded.Goals as goal
 
 is : (n p u : ℕ) → u ≡ 2 ^ p → (3 * n / 2 ^ (p + 1) - n / 2 ^ (p + 1)) * u ≡ after p n * 2 ^ p
 is n p u e = ap₂ (λ (i j : ℕ). i * j) (sym (after_is p n)) e
-
-pub overflow_mul-result : goal.overflow_mul-result
-overflow_mul-result c =
-    let d = c.args.self in
-    omega (arith, d.inside, pow_mono {i = d.width.bits} {j = 24} d.width.most)
-
-pub overflow_mul-result-2 : goal.overflow_mul-result-2
-overflow_mul-result-2 c =
-    let d = c.args.self in
-    omega (
-      arith,
-      is d.addresses c.args.place _ c.power.ensures,
-      after_bound d.width.bits c.args.place d.addresses d.inside,
-      pow_mono {i = d.width.bits} {j = 24} d.width.most,
-    )
 
 pub invariant_of-result : goal.invariant_of-result
 invariant_of-result c =
