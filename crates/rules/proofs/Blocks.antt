@@ -81,14 +81,15 @@ served (Some y) e = refl
 pub all_covered : (W : ℕ) (rs : List Rule) → answered W rs None ≡ 0 → Covers W rs
 all_covered W rs e a h = served (first_match W rs a) (tally_none (λ a. same None (first_match W rs a)) (2 ^ W) e a h)
 
--- ---- a list from a place on
-
+-- where the first rule matches, it decides
 pub match_first : (W : ℕ) (rs : List Rule) (d : Rule) (a : ℕ) → 0 < length rs → matches W (get_or rs 0 d) a ≡ true
     → first_match W rs a ≡ Some (get_or rs 0 d).server
 match_first W [] d a h m = absurd (omega arith)
 match_first W (r ∷ rs) d a h m = rw m
 
--- a rule that does not meet the block matches none of it, and one that covers it all
+-- ---- the first rule that meets a block
+
+-- a rule that does not meet it matches none of it
 apart : (W s n : ℕ) (r : Rule) (a : ℕ) → meets W s n r ≡ false → s ≤ a → a < s + n → matches W r a ≡ false
 apart W s n r a h lo hi = grind (arith, nat_tests)
 
@@ -101,6 +102,7 @@ ahead W s n (r ∷ rs) (suc i) d h f a lo hi =
     let m = apart W s n r a (f 0 (omega arith)) lo hi in
     ahead W s n rs i d (omega arith) (λ k l. f (suc k) (omega arith)) a lo hi ∙ rw m
 
+-- where none meets it, no address is matched
 pub unmet : (W s n : ℕ) (rs : List Rule) → position (meets W s n) rs ≡ None → (a : ℕ) → s ≤ a → a < s + n → first_match W rs a ≡ None
 unmet W s n rs e a lo hi =
     let d : Rule = record { start = 0; length = 0; server = One } in
@@ -127,7 +129,7 @@ met W s n i rs ps d e f =
       alike = λ a lo hi. ap (λ (qs : List Rule). first_match W qs a) f ∙ ahead W s n rs i d (omega arith) p.2 a lo hi;
     }
 
--- the first covers the block, or it does not
+-- where that rule covers the block, it decides all of it, and else the block has more than one address
 pub decided : (W s n : ℕ) (rs ps : List Rule) (d : Rule) (b : Block) → Met W s n rs ps d
     → b.start ≡ (get_or ps 0 d).start → b.bits ≡ W - (get_or ps 0 d).length → (nat_le b.start s && nat_le (s + n) (b.start + 2 ^ b.bits)) ≡ true
     → (a : ℕ) → s ≤ a → a < s + n → first_match W rs a ≡ Some (get_or ps 0 d).server
