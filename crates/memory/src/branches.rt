@@ -2,10 +2,11 @@
 // always finds the nodes that it needs, and a remove gives back those that it emptied.
 ghost use Rattle.std.specs.Prelude.{◌≡◌, ◌+◌, ◌<◌, ◌≤◌, true, false, IfOk};
 ghost use Rattle.memory.specs.Holding.{Counted};
-ghost use Rattle.memory.specs.Writes.{Fitted, Fresh};
+ghost use Rattle.memory.specs.Writes.{Fresh};
 ghost use Rattle.memory.specs.Tries.{in_trie, trie_formed, nodes, rules, spares, neat};
 ghost use Rattle.std.proofs.Common.{le_trans, lit≤};
 
+use crate::fitting::Fitting;
 use crate::key::{KeyRule, Prefix};
 use crate::reader::Reader;
 use crate::rule_memory::RuleMemory;
@@ -43,19 +44,6 @@ impl Branches {
             count: 0,
             capacity: 0,
         })
-    }
-
-    // Sets the capacity, and empties the branches.
-    pub fn fit(&mut self, capacity: u32) -> Result<(), Refusal>
-        ensures { Fitted 256 capacity (in_trie self.old.root) (in_trie self.new.root) self.old.count self.new.count self.old.capacity self.new.capacity result }
-    {
-        if capacity > CEILING {
-            return Err(Refusal::AboveCeiling);
-        }
-        self.root.release(&mut self.spare);
-        self.count = 0;
-        self.capacity = capacity;
-        Ok(())
     }
 }
 
@@ -140,6 +128,24 @@ impl RuleMemory for Branches {
                 Ok(true)
             }
         }
+    }
+}
+
+impl Fitting for Branches {
+    ghost most = { λ _. 256 };
+
+    fn ceiling(&self) -> u32 {
+        CEILING
+    }
+
+    fn fit(&mut self, capacity: u32) -> Result<(), Refusal> {
+        if capacity > CEILING {
+            return Err(Refusal::AboveCeiling);
+        }
+        self.root.release(&mut self.spare);
+        self.count = 0;
+        self.capacity = capacity;
+        Ok(())
     }
 }
 

@@ -3,6 +3,7 @@
 
 pub mod branches;
 pub mod contents;
+pub mod fitting;
 pub mod key;
 pub mod reader;
 mod row;

@@ -4,10 +4,11 @@ ghost use Rattle.std.specs.Prelude.{◌≡◌, ℕ, ◌+◌, ◌<◌, ◌≤◌,
 ghost use Rattle.std.proofs.Common.{sym, le_trans, lit≤};
 ghost use Rattle.memory.specs.Keys.{formed};
 ghost use Rattle.memory.specs.Holding.{apart, at};
-ghost use Rattle.memory.specs.Writes.{written, Fitted, Fresh};
+ghost use Rattle.memory.specs.Writes.{written, Fresh};
 ghost use Rattle.memory.specs.Rows.{row_prefixes, falling, in_rows, row_of, place_of, matches};
 ghost use Rattle.memory.specs.RowLaws.{rows_formed, rows_counted};
 
+use crate::fitting::Fitting;
 use crate::key::{KeyRule, Prefix, breadth};
 use crate::reader::Reader;
 use crate::row::Row;
@@ -56,18 +57,6 @@ impl Slots {
     {
         let rows = Vec::with_capacity(heap, 1024)?;
         Ok(Slots { rows, capacity: 0 })
-    }
-
-    // Sets the capacity, and empties the slots.
-    pub fn fit(&mut self, capacity: u32) -> Result<(), Refusal>
-        ensures { Fitted 1024 capacity (in_rows self.old.rows.items) (in_rows self.new.rows.items) (vec_len self.old.rows) (vec_len self.new.rows) self.old.capacity self.new.capacity result }
-    {
-        if capacity > CEILING {
-            return Err(Refusal::AboveCeiling);
-        }
-        self.rows.clear();
-        self.capacity = capacity;
-        Ok(())
     }
 
     // The row of a prefix, or the number of rows.
@@ -203,5 +192,22 @@ impl RuleMemory for Slots {
             return Ok(true);
         }
         Ok(false)
+    }
+}
+
+impl Fitting for Slots {
+    ghost most = { λ _. 1024 };
+
+    fn ceiling(&self) -> u32 {
+        CEILING
+    }
+
+    fn fit(&mut self, capacity: u32) -> Result<(), Refusal> {
+        if capacity > CEILING {
+            return Err(Refusal::AboveCeiling);
+        }
+        self.rows.clear();
+        self.capacity = capacity;
+        Ok(())
     }
 }

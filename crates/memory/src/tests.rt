@@ -1,6 +1,7 @@
 // Both memories through the same generic drivers: no driver knows which memory it has.
 use crate::branches::Branches;
 use crate::contents::{holds_exactly, remove_all};
+use crate::fitting::Fitting;
 use crate::key::{KeyRule, Prefix};
 use crate::reader::Reader;
 use crate::rule_memory::RuleMemory;
