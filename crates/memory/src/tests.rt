@@ -88,46 +88,36 @@ fn compares<M: RuleMemory>(rt: &impl Abort, memory: &mut M) {
     assert_eq!(rt; holds_exactly(memory, &[high]), true);
 }
 
-fn drives<M: RuleMemory>(rt: &impl Abort, memory: &mut M) {
-    fills(rt, memory);
-    breaks(rt, memory, prefix(1, 31));
-    breaks(rt, memory, prefix(0, 33));
-    breaks(rt, memory, prefix(0x8000_0000, 0));
-}
-
-#[test]
-fn slots(rt: HostRuntime) -> Result<(), Fail> {
-    let mut memory = Slots::new(rt.alloc())?;
+// A new memory takes nothing, and is then fitted for each of the drivers.
+fn drives<M: Fitting>(rt: &impl Abort, memory: &mut M, ceiling: u32) {
+    assert_eq!(rt; memory.ceiling(), ceiling);
     assert_eq!(rt;
         memory.put(rule(0, 0, Server::One)),
         Err(Refusal::MemoryFull)
     );
-    assert_eq!(rt; memory.fit(1025), Err(Refusal::AboveCeiling));
+    let above = ceiling.saturating_add(1);
+    assert_eq!(rt; memory.fit(above), Err(Refusal::AboveCeiling));
     assert_eq!(rt; memory.fit(3), Ok(()));
-    drives(&rt, &mut memory);
-    assert_eq!(rt; memory.fit(1024), Ok(()));
+    fills(rt, memory);
+    breaks(rt, memory, prefix(1, 31));
+    breaks(rt, memory, prefix(0, 33));
+    breaks(rt, memory, prefix(0x8000_0000, 0));
+    assert_eq!(rt; memory.fit(ceiling), Ok(()));
     assert_eq!(rt; memory.count(), 0);
-    nests(&rt, &mut memory);
+    nests(rt, memory);
     assert_eq!(rt; memory.fit(2), Ok(()));
-    compares(&rt, &mut memory);
+    compares(rt, memory);
+}
+
+#[test]
+fn slots(rt: HostRuntime) -> Result<(), Fail> {
+    drives(&rt, &mut Slots::new(rt.alloc())?, 1024);
     Ok(())
 }
 
 #[test]
 fn branches(rt: HostRuntime) -> Result<(), Fail> {
-    let mut memory = Branches::new(rt.alloc())?;
-    assert_eq!(rt;
-        memory.put(rule(0, 0, Server::One)),
-        Err(Refusal::MemoryFull)
-    );
-    assert_eq!(rt; memory.fit(257), Err(Refusal::AboveCeiling));
-    assert_eq!(rt; memory.fit(3), Ok(()));
-    drives(&rt, &mut memory);
-    assert_eq!(rt; memory.fit(256), Ok(()));
-    assert_eq!(rt; memory.count(), 0);
-    nests(&rt, &mut memory);
-    assert_eq!(rt; memory.fit(2), Ok(()));
-    compares(&rt, &mut memory);
+    drives(&rt, &mut Branches::new(rt.alloc())?, 256);
     Ok(())
 }
 
