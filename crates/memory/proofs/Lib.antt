@@ -1,7 +1,7 @@
 pub mod Longest
 pub mod Counting
 pub mod Writing
-pub mod RowLoops
+pub mod RowSearches
 pub mod Halves
 pub mod Levels
 pub mod TrieLaws

@@ -1,11 +1,11 @@
 // Slots: up to 1,024 rules in rows, longer prefixes ahead of shorter ones, and the first match answers. All rows are reserved when the slots are
 // made, so that no later call can fail for want of memory.
-ghost use Rattle.std.specs.Prelude.{◌≡◌, ℕ, ◌+◌, ◌<◌, ◌≤◌, true, IfOk, Some, None, vec_len, vec_capacity};
+ghost use Rattle.std.specs.Prelude.{◌≡◌, ℕ, ◌+◌, ◌<◌, ◌≤◌, true, IfOk, Some, None, position, vec_len, vec_capacity};
 ghost use Rattle.std.proofs.Common.{sym, le_trans, lit≤};
 ghost use Rattle.memory.specs.Keys.{formed};
 ghost use Rattle.memory.specs.Holding.{apart, at};
 ghost use Rattle.memory.specs.Writes.{written, Fresh};
-ghost use Rattle.memory.specs.Rows.{row_prefixes, falling, in_rows, row_of, place_of, matches};
+ghost use Rattle.memory.specs.Rows.{row_prefixes, falling, in_rows, named, row_of, place_of, matches};
 ghost use Rattle.memory.specs.RowLaws.{rows_formed, rows_counted};
 
 use crate::fitting::Fitting;
@@ -59,32 +59,19 @@ impl Slots {
         Ok(Slots { rows, capacity: 0 })
     }
 
-    // The row of a prefix, or the number of rows.
-    fn row_of(&self, prefix: Prefix) -> usize
-        ensures { result ≡ row_of self.now.rows.items prefix.value prefix.length }
+    // The row of a prefix, if it has one.
+    fn row_of(&self, prefix: Prefix) -> Option<usize>
+        ensures { result ≡ position (λ r. named r prefix.value prefix.length) self.now.rows.items }
     {
-        let mut i = 0;
-        for row in self.rows.iter() {
-            if row.rule.prefix.is(prefix) {
-                return i;
-            }
-            i += 1;
-        }
-        i
+        self.rows.iter().position(|row| row.rule.prefix == prefix)
     }
 
     // The row ahead of which a prefix of this length comes.
     fn place_of(&self, length: u32) -> usize
         ensures { result ≡ place_of self.now.rows.items length }
     {
-        let mut i = 0;
-        for row in self.rows.iter() {
-            if row.rule.prefix.length <= length {
-                return i;
-            }
-            i += 1;
-        }
-        i
+        self.rows
+            .partition_point(|row| row.rule.prefix.length > length)
     }
 
     // Another rule in the row of its prefix.
@@ -134,21 +121,15 @@ impl Reader for Slots {
     ghost counted = { λ m. ∣ rows_counted m.rows.items (vec_len m.rows) (sym m.rows.ok.0) m.once ∣₁ };
 
     fn look(&self, key: u32) -> Option<Server> {
-        for row in self.rows.iter() {
-            if row.covers(key) {
-                return Some(row.rule.server);
-            }
-        }
-        None
+        self.rows
+            .iter()
+            .find(|row| row.covers(key))
+            .map(|row| row.rule.server)
     }
 
     fn held(&self, prefix: Prefix) -> Option<Server> {
-        let i = self.row_of(prefix);
-        if i < self.rows.len() {
-            Some(self.rows[i].rule.server)
-        } else {
-            None
-        }
+        let i = self.row_of(prefix)?;
+        Some(self.rows[i].rule.server)
     }
 
     fn count(&self) -> u32 {
@@ -170,8 +151,7 @@ impl RuleMemory for Slots {
             return Err(Refusal::BrokenLayout);
         }
         let row = Row::new(rule);
-        let i = self.row_of(rule.prefix);
-        if i < self.rows.len() {
+        if let Some(i) = self.row_of(rule.prefix) {
             self.replace(i, row);
             return Ok(());
         }
@@ -186,8 +166,7 @@ impl RuleMemory for Slots {
         if !prefix.is_well_formed() {
             return Err(Refusal::BrokenLayout);
         }
-        let i = self.row_of(prefix);
-        if i < self.rows.len() {
+        if let Some(i) = self.row_of(prefix) {
             self.strike(i, prefix);
             return Ok(true);
         }

@@ -1,18 +1,14 @@
-use Rattle.std.proofs.Common.{length, vec_items, ap, arith}
-use Rattle.std.proofs.lemmas.Bool.Decides.{nat_tests}
-use Rattle.memory.proofs.RowLoops.{place_at, place_none}
+use Rattle.std.proofs.Common.{rules, ◌≡◌, true, ltb, length, ap, ◌∙◌, arith}
+use Rattle.std.proofs.lemmas.List.Sorted.{IsPartitionPoint-from_clause}
+use Rattle.memory.specs.declared.row.Row.{Row}
+use Rattle.memory.specs.Rows.{row_prefixes, falling, place_of}
+use Rattle.memory.proofs.RowSearches.{longer_first, placed}
 use Rattle.memory.proofs.slots.Slots.place_of.Goals as goal
-
-pub returns-then-row-length : goal.returns-then-row-length
-returns-then-row-length c =
-    let s = place_at (vec_items c.args.self.now.rows) c.loop-row.row-index c.row-item.result c.args.length c.deref-row-items.ensures.value c.loop-row-test.true c.row-item.is in
-    grind (arith, nat_tests, s, c.loop-row.invariant.1, c.if-row-length.true)
-
-pub loop-row-preserved : goal.loop-row-preserved
-loop-row-preserved c =
-    let s = place_at (vec_items c.args.self.now.rows) c.loop-row.row-index c.row-item.result c.args.length c.deref-row-items.ensures.value c.loop-row-test.true c.row-item.is in
-    (omega (arith, c.loop-row.invariant.0), grind (arith, nat_tests, s, c.loop-row.invariant.1, c.if-row-length.false))
 
 pub returns : goal.returns
 returns c =
-    omega (arith, c.loop-row.invariant.1, place_none (vec_items c.args.self.now.rows) c.loop-row.row-index c.args.length (omega (arith, ap length c.deref-row-items.ensures.value)))
+    let rs = c.deref.result.now in
+    let ordered = ap (λ xs. falling 32 (row_prefixes xs)) c.deref.ensures.value ∙ c.args.self.now.ordered in
+    placed c.args.length rs c.partition_point.result c.partition_point.ensures.bound
+    (IsPartitionPoint-from_clause (λ (r : Row). ltb c.args.length r.rule.prefix.length) rs _ c.partition_point.ensures.partitioned (longer_first 32 c.args.length rs ordered) (λ a r f' k. search rules))
+    ∙ ap (λ xs. place_of xs c.args.length) c.deref.ensures.value
