@@ -1,6 +1,7 @@
 -- Held rules, and as many as are counted: then no other rule is held.
-use Rattle.std.proofs.Common.{◌≡◌, ℕ, suc, Bool, true, false, cond, ◌||◌, eqb, List, [], ◌∷◌, length, is_some, Some, None, Option, sym, refl, ap, ◌∙◌}
+use Rattle.std.proofs.Common.{◌≡◌, ℕ, suc, Bool, true, false, cond, ◌&&◌, ◌||◌, eqb, List, [], ◌∷◌, length, is_some, Some, None, Option, MatchBool, sym, refl, ap, ◌∙◌}
 use Rattle.std.proofs.lemmas.Bool.{and_parts, and_from, eqb-true, eq-eqb, false≢true, both_ways, not-true, or_left, or_right}
+use Rattle.std.specs.List.{list_any, list_all}
 use Rattle.rules.specs.declared.server.Server.{Server}
 use Rattle.rules.specs.declared.server.Server.TheVariants.{One, Two}
 use Rattle.rules.specs.Servers.{server_number}
@@ -22,6 +23,15 @@ answer_is (Some t) s e = ap Some (server_is t s e)
 
 is_answer : (o : Option Server) (s : Server) → o ≡ Some s → same_server o s ≡ true
 is_answer o s e = ap (λ x. same_server x s) e ∙ eq-eqb (server_number s) (server_number s) refl
+
+-- the tests of a list of rules, as tests of each rule
+pub among_any : (rs : List KeyRule) (v l : ℕ) → among (prefixes_of rs) v l ≡ list_any (λ r. same_prefix r.prefix v l) rs
+among_any [] v l = refl
+among_any (r ∷ rs) v l = ap (λ b. same_prefix r.prefix v l || b) (among_any rs v l)
+
+pub held_all : (h : Held) (rs : List KeyRule) → all_held h rs ≡ list_all (λ r. same_server (at h r.prefix) r.server) rs
+held_all h [] = refl
+held_all h (r ∷ rs) = ap (λ b. same_server (at h r.prefix) r.server && b) (held_all h rs)
 
 -- a list of rules names as many prefixes as it has rules
 pub length_prefixes : (rs : List KeyRule) → length (prefixes_of rs) ≡ length rs
@@ -70,3 +80,8 @@ module _ (h : Held) (n : ℕ) (rs : List KeyRule) (counted : ∥ Counted h n ∥
 
   pub not_held : all_held h rs ≡ false → Exactly h rs → ⊥
   not_held off e = both_ways _ off (held_named h rs e.once (λ v l _. e.exact v l))
+
+  -- the last test of `holds_exactly`, behind the others
+  pub when_held : n ≡ length rs → apart (prefixes_of rs) ≡ true → (b : Bool) → b ≡ all_held h rs → MatchBool b (Exactly h rs) (Exactly h rs → ⊥)
+  when_held many once true e = exactly many once (sym e)
+  when_held many once false e = not_held (sym e)

@@ -10,22 +10,19 @@ use crate::rule_memory::RuleMemory;
 fn names(rules: &[KeyRule], prefix: Prefix) -> bool
     ensures { result ≡ among (prefixes_of rules.now) prefix.value prefix.length }
 {
-    for rule in rules {
-        if rule.prefix.is(prefix) {
-            return true;
-        }
-    }
-    false
+    rules.iter().any(|rule| rule.prefix == prefix)
 }
 
 // Whether no two rules of the list have one prefix.
 fn are_apart(rules: &[KeyRule]) -> bool
     ensures { result ≡ apart (prefixes_of rules.now) }
 {
-    for i in 0..rules.len() {
-        if names(&rules[i + 1..], rules[i].prefix) {
+    let mut rest = rules;
+    while let Some((first, others)) = rest.split_first() {
+        if names(others, first.prefix) {
             return false;
         }
+        rest = others;
     }
     true
 }
@@ -34,35 +31,21 @@ fn are_apart(rules: &[KeyRule]) -> bool
 fn holds<R: Reader>(reader: &R, rule: KeyRule) -> bool
     ensures { result ≡ same_server (at (R.Reader.held_at reader.now) rule.prefix) rule.server }
 {
-    match reader.held(rule.prefix) {
-        Some(server) => server.number() == rule.server.number(),
-        None => false,
-    }
+    reader.held(rule.prefix) == Some(rule.server)
 }
 
 // Whether the reader holds each rule of the list.
 fn holds_all<R: Reader>(reader: &R, rules: &[KeyRule]) -> bool
     ensures { result ≡ all_held (R.Reader.held_at reader.now) rules.now }
 {
-    for rule in rules {
-        if !holds(reader, *rule) {
-            return false;
-        }
-    }
-    true
+    rules.iter().all(|rule| holds(reader, *rule))
 }
 
 // Whether the reader holds exactly the rules of the list: as many as it has, each of them, and so no other.
 pub fn holds_exactly<R: Reader>(reader: &R, rules: &[KeyRule]) -> bool
     ensures { MatchBool result (Exactly (R.Reader.held_at reader.now) rules.now) (Exactly (R.Reader.held_at reader.now) rules.now → ⊥) }
 {
-    if reader.count() as usize != rules.len() {
-        return false;
-    }
-    if !are_apart(rules) {
-        return false;
-    }
-    holds_all(reader, rules)
+    reader.count() as usize == rules.len() && are_apart(rules) && holds_all(reader, rules)
 }
 
 // Takes the rules at these prefixes out, and tells how many were there. A prefix that breaks its layout has none.

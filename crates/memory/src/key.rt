@@ -1,7 +1,6 @@
 // Key rules: which keys of 32 bits go to which server.
 ghost use Rattle.std.specs.Prelude.{◌≡◌, ◌-◌, ◌^◌, ◌≤◌};
 ghost use Rattle.memory.specs.Keys.{formed};
-ghost use Rattle.memory.specs.Holding.{same_prefix};
 
 use rules::server::Server;
 
@@ -36,12 +35,5 @@ impl Prefix {
         ensures { result ≡ formed self.value self.length }
     {
         self.length <= 32 && u64::from(self.value) % breadth(self.length) == 0
-    }
-
-    // Whether both are one prefix.
-    pub(crate) fn is(self, other: Prefix) -> bool
-        ensures { result ≡ same_prefix self other.value other.length }
-    {
-        self.value == other.value && self.length == other.length
     }
 }

@@ -1,25 +1,22 @@
-use Rattle.std.proofs.Common.{◌≡◌, Bool, true, false, MatchBool, sym, arith}
-use Rattle.std.proofs.lemmas.Bool.{both_ways}
-use Rattle.memory.specs.Holding.{Exactly, all_held}
-use Rattle.memory.proofs.Exact.{exactly, not_many, not_held}
+use Rattle.std.proofs.Common.{sym, ◌∙◌, arith}
+use Rattle.std.proofs.lemmas.Bool.{both_ways, eqb-true}
+use Rattle.memory.proofs.Exact.{not_many, when_held}
 use Rattle.memory.proofs.contents.holds_exactly.Goals as goal
+use Rattle.memory.proofs.contents.holds_exactly.Goals.{then-count-rules, else-count-rules}
 
-pub returns-then-count-rules : goal.returns-then-count-rules
-returns-then-count-rules g c =
+pub returns-then-are_apart : goal.returns-then-are_apart
+returns-then-are_apart g c =
     let me = c.args.reader.now in
-    not_many (g.R.Reader.held_at me) (g.R.Reader.size me) c.args.rules.now (g.met.R.Reader.counted me) (λ same. omega (arith, same, c.count.ensures, c.if-count-rules.true))
+    elim c.if-count-rules.branch [
+      | then-count-rules w ↦ when_held (g.R.Reader.held_at me) (g.R.Reader.size me) c.args.rules.now (g.met.R.Reader.counted me) (omega (arith, c.count.ensures, w.if-count-rules.true)) (sym w.are_apart.ensures ∙ sym w.value-is ∙ c.if-are_apart.true) c.holds_all.result c.holds_all.ensures
+      | else-count-rules w ↦ absurd (omega (arith, w.if-count-rules.false, eqb-true c.count.result _ (sym w.value-is ∙ c.if-are_apart.true)))
+    ]
 
-pub returns-then-not-are_apart : goal.returns-then-not-are_apart
-returns-then-not-are_apart g c = λ e. both_ways _ (sym c.if-not-are_apart.ensures) e.once
-
-pub returns : goal.returns
-returns g c = by c.holds_all.result c.holds_all.ensures
-  where
-    by : (b : Bool) → b ≡ all_held (g.R.Reader.held_at c.args.reader.now) c.args.rules.now
-        → MatchBool b (Exactly (g.R.Reader.held_at c.args.reader.now) c.args.rules.now) (Exactly (g.R.Reader.held_at c.args.reader.now) c.args.rules.now → ⊥)
-    by true e =
-        let me = c.args.reader.now in
-        exactly (g.R.Reader.held_at me) (g.R.Reader.size me) c.args.rules.now (g.met.R.Reader.counted me) (omega (arith, c.count.ensures, c.if-count-rules.false)) (sym c.if-not-are_apart.ensures) (sym e)
-    by false e =
-        let me = c.args.reader.now in
-        not_held (g.R.Reader.held_at me) (g.R.Reader.size me) c.args.rules.now (g.met.R.Reader.counted me) (sym e)
+pub returns-else-are_apart : goal.returns-else-are_apart
+returns-else-are_apart g c =
+    let me = c.args.reader.now in
+    rw c.if-are_apart.false
+    (λ e. elim c.if-count-rules.branch [
+      | then-count-rules w ↦ both_ways _ (sym w.are_apart.ensures ∙ sym w.value-is ∙ c.if-are_apart.false) e.once
+      | else-count-rules w ↦ not_many (g.R.Reader.held_at me) (g.R.Reader.size me) c.args.rules.now (g.met.R.Reader.counted me) (λ same. omega (arith, same, c.count.ensures, w.if-count-rules.false)) e
+    ])

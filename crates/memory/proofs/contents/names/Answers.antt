@@ -1,23 +1,13 @@
-use Rattle.std.proofs.Common.{◌+◌, ◌||◌, drop, sym, ap, ◌∙◌}
-use Rattle.std.proofs.lemmas.List.{at_drop_more, at_drop_all}
-use Rattle.memory.specs.Holding.{among, prefixes_of}
+use Rattle.std.proofs.Common.{rules, sym, ◌∙◌}
+use Rattle.std.proofs.lemmas.Iterator.{YieldsList-from_slice}
+use Rattle.std.proofs.lemmas.Iterator.Search.{any_from_yields_List}
+use borrow.Author.Tests.{tests}
+use Rattle.memory.specs.declared.key.KeyRule.{KeyRule}
+use Rattle.memory.specs.Holding.{same_prefix}
+use Rattle.memory.proofs.Exact.{among_any}
 use Rattle.memory.proofs.contents.names.Goals as goal
 
-pub returns-then-is : goal.returns-then-is
-returns-then-is c =
-    let rs = c.args.rules.now in
-    let v = c.args.prefix.value in
-    let l = c.args.prefix.length in
-    let i = c.loop-rule.rule-index in
-    sym (sym c.loop-rule.invariant ∙ at_drop_more (λ xs. among (prefixes_of xs) v l) rs i _ c.loop-rule-test.true ∙ ap (λ b. b || among (prefixes_of (drop (i + 1) rs)) v l) (sym c.if-is.ensures))
-
-pub loop-rule-preserved : goal.loop-rule-preserved
-loop-rule-preserved c =
-    let rs = c.args.rules.now in
-    let v = c.args.prefix.value in
-    let l = c.args.prefix.length in
-    let i = c.loop-rule.rule-index in
-    sym (at_drop_more (λ xs. among (prefixes_of xs) v l) rs i _ c.loop-rule-test.true ∙ ap (λ b. b || among (prefixes_of (drop (i + 1) rs)) v l) (sym c.if-is.ensures)) ∙ c.loop-rule.invariant
-
 pub returns : goal.returns
-returns c = sym (sym c.loop-rule.invariant ∙ at_drop_all (λ xs. among (prefixes_of xs) c.args.prefix.value c.args.prefix.length) c.args.rules.now c.loop-rule.rule-index c.loop-rule-test.false)
+returns c =
+    any_from_yields_List (λ (r : KeyRule). same_prefix r.prefix c.args.prefix.value c.args.prefix.length) _ _ _ c.any.ensures.ran (YieldsList-from_slice c.args.rules.now cc) (λ x b q k. search (rules, tests))
+    ∙ sym (among_any c.args.rules.now c.args.prefix.value c.args.prefix.length)
