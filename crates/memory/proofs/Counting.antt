@@ -1,5 +1,5 @@
 -- Laws of how many prefixes are held, and that n held prefixes and a count of n leave no other.
-use Rattle.std.proofs.Common.{◌≡◌, ℕ, suc, ◌+◌, Bool, true, false, cond, not, ◌||◌, eqb, List, [], ◌∷◌, length, is_some, Some, None, Option, sym, refl, ap, ◌∙◌, arith}
+use Rattle.std.proofs.Common.{◌≡◌, ℕ, suc, ◌+◌, Bool, true, false, cond, not, ◌||◌, eqb, List, [], ◌∷◌, length, is_some, Some, None, Option, sym, refl, ap, ◌∙◌, subst, arith}
 use Rattle.std.proofs.lemmas.Bool.{and_parts, and_from, or_left, or_right, eqb-true, eq-eqb, false≢true, both_ways, not-true, not_from_false}
 use mathlib.Core.Logic.{∥∥₁_elim}
 use mathlib.Core.HLevel.{⊥_prop}
@@ -100,6 +100,11 @@ module _ {h h' : Held} {n : ℕ} (p : Prefix) (o : Option Server) (all : Counted
       by : (w k : ℕ) (b : Bool) → same_prefix p w k ≡ b → is_some (cond b (Some s) (h w k)) ≡ among all.prefixes w k
       by w k true e = sym (sym (among_at all.prefixes p.value p.length w k e) ∙ sym (all.exact p.value p.length) ∙ ap is_some there)
       by w k false e = all.exact w k
+
+  -- either, by what was held at the prefix
+  pub counted_put : (s : Server) → o ≡ Some s → (x : Option Server) → at h p ≡ x → (m : ℕ) → m ≡ n + cond (is_some x) 0 1 → Counted h' m
+  counted_put s is None e m many = subst (Counted h') (sym many) (counted_new s is e)
+  counted_put s is (Some t) e m many = let same : n ≡ m = omega (arith, many) in subst (Counted h') same (counted_old s t is e)
 
   -- one prefix less
   pub counted_less : (t : Server) (m : ℕ) → o ≡ None → at h p ≡ Some t → m + 1 ≡ n → Counted h' m

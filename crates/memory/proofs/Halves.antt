@@ -32,7 +32,3 @@ pub within_none : (h v : ℕ) → Within h 0 v → v ≡ 0
 within_none h v w =
     let e : h - 0 ≡ h = omega arith in
     sym (mod-eq_of_lt w.1) ∙ ap (λ k. v % 2 ^ k) (sym e) ∙ w.2
-
--- the same, with the first bit as a number of the program
-pub within_one_at : (h n v a : ℕ) → a ≡ half h → Within h n v → 0 < n → a ≤ v → Within (h - 1) (n - 1) (v - a)
-within_one_at h n v a e w p r = subst (λ b. Within (h - 1) (n - 1) (v - b)) (sym e) (within_one h n v w p (omega (arith, e)))

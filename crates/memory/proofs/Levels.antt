@@ -6,7 +6,7 @@ use Rattle.std.specs.declared.alloc.Global.{Global}
 use Rattle.rules.specs.declared.server.Server.{Server}
 use Rattle.memory.specs.declared.trie.Trie.{Trie}
 use Rattle.memory.specs.declared.trie.Trie.TheVariants.{Node'}
-use Rattle.memory.specs.Tries.{half, at_bits, Within, is_node, nodes, rules, neat, ready, spares, Opened, Inserted, Pruned, Erased}
+use Rattle.memory.specs.Tries.{half, at_bits, Within, is_node, nodes, rules, neat, ready, spares, Split, Opened, Inserted, Pruned, Erased}
 use Rattle.memory.proofs.Halves.{within_one, within_zero, within_none}
 
 -- the same question one bit further
@@ -72,6 +72,10 @@ module _ (s o : Option Server) (p q : Box (Unit {0}) Global) (l r : Trie) (h n v
           sym (cond-true (eqb v w && eqb n k) o s (and_from (eqb v w) (eqb n k) (eq-eqb v w (v0 ∙ sym w0)) (eq-eqb n k (none ∙ sym here))))
       by false ez = sym (cond-false (eqb v w && eqb n k) o _ (and_right (eqb v w) (eqb n k) (ne_eqb n k (λ e. eqb-false k 0 ez (sym e ∙ none)))))
 
+-- a fact of what is behind the first bit
+pub behind : (P : ℕ → ℕ → ℕ → Type 0) {h h' n n' v v' : ℕ} → h' ≡ h → n' ≡ n → v' ≡ v → P h' n' v' → P h n v
+behind P {h} {h'} {n} {n'} {v} {v'} eh en ev p = subst (λ y. P y n v) eh (subst (λ y. P h' y v) en (subst (P h' n') ev p))
+
 -- how neat a node is
 neat_from : (s : Option Server) (p q : Box (Unit {0}) Global) (l r : Trie) (h : ℕ) → (is_some s || (is_node l || is_node r)) ≡ true → 0 < h → neat l (h - 1) ≡ true → neat r (h - 1) ≡ true → neat (Node' s p l q r) h ≡ true
 neat_from s p q l r h b pos x y =
@@ -112,36 +116,36 @@ module _ {t g c c₁ : Trie} {s : Option Server} {p q : Box (Unit {0}) Global} {
   pub inserted_here : (o : Option Server) → o ≡ Some x → n ≡ 0 → Inserted t (Node' o p l q r) c c₁ h n v x
   inserted_here o e none = subst (λ y. Inserted t (Node' y p l q r) c c₁ h n v x) (sym e) (here none)
 
-  pub inserted_one : {u r' c₂ : Trie} {a : ℕ} → 0 < n → a ≡ half h → a ≤ v → u ≡ r → Inserted u r' c₁ c₂ (h - 1) (n - 1) (v - a) x → Inserted t (Node' s p l q r') c c₂ h n v x
-  inserted_one {u} {r'} {c₂} {a} pos ea up eu below =
+  pub inserted_one : {u r' c₂ : Trie} {h' n' v' : ℕ} → Split h n v true h' n' v' → u ≡ r → Inserted u r' c₁ c₂ h' n' v' x → Inserted t (Node' s p l q r') c c₂ h n v x
+  inserted_one {u} {r'} {c₂} {h'} {n'} {v'} way eu below =
       let sp = subst (λ y. Opened t y c c₁) is first in
-      let ih = subst (λ y. Inserted r r' c₁ c₂ (h - 1) (n - 1) (v - y) x) ea (subst (λ y. Inserted y r' c₁ c₂ (h - 1) (n - 1) (v - a) x) eu below) in
-      let high : half h ≤ v = omega (arith, ea) in
-      let at = sym (sp.held h n v) ∙ behind_one s p q l r h n v pos high in
+      let ih = behind (λ y₁ y₂ y₃. Inserted r r' c₁ c₂ y₁ y₂ y₃ x) way.height_is way.length_is way.value_is (subst (λ y. Inserted y r' c₁ c₂ h' n' v' x) eu below) in
+      let high = leb-true (half h) v (sym way.bit_is) in
+      let at = sym (sp.held h n v) ∙ behind_one s p q l r h n v way.some high in
       record {
-        held = λ k w in_h. level_one s (Some x) p q l r h n v r' pos high ih.held k w in_h ∙ ap (λ o. cond (eqb v w && eqb n k) (Some x) o) (sp.held h k w);
+        held = λ k w in_h. level_one s (Some x) p q l r h n v r' way.some high ih.held k w in_h ∙ ap (λ o. cond (eqb v w && eqb n k) (Some x) o) (sp.held h k w);
         nodes_kept = omega (arith, ih.nodes_kept, sp.nodes_kept);
         rules_are = omega (arith, ih.rules_are, sp.rules_kept, ap {B = ℕ} (λ o. cond (is_some o) 0 1) at);
         node = refl;
         neat_kept = λ e.
             let parts = ready_parts s p q l r h (sp.ready_now h e) in
-            neat_from s p q l r' h (or_right (is_some s) _ (or_right (is_node l) (is_node r') ih.node)) (omega (arith, in_v.0)) parts.0 (ih.neat_kept parts.1);
+            neat_from s p q l r' h (or_right (is_some s) _ (or_right (is_node l) (is_node r') ih.node)) (omega (arith, in_v.0, way.some)) parts.0 (ih.neat_kept parts.1);
       }
 
-  pub inserted_zero : {u l' c₂ : Trie} {a : ℕ} → 0 < n → a ≡ half h → v < a → u ≡ l → Inserted u l' c₁ c₂ (h - 1) (n - 1) v x → Inserted t (Node' s p l' q r) c c₂ h n v x
-  inserted_zero {u} {l'} {c₂} {a} pos ea down eu below =
+  pub inserted_zero : {u l' c₂ : Trie} {h' n' v' : ℕ} → Split h n v false h' n' v' → u ≡ l → Inserted u l' c₁ c₂ h' n' v' x → Inserted t (Node' s p l' q r) c c₂ h n v x
+  inserted_zero {u} {l'} {c₂} {h'} {n'} {v'} way eu below =
       let sp = subst (λ y. Opened t y c c₁) is first in
-      let ih = subst (λ y. Inserted y l' c₁ c₂ (h - 1) (n - 1) v x) eu below in
-      let low : v < half h = omega (arith, ea) in
-      let at = sym (sp.held h n v) ∙ behind_zero s p q l r h n v pos low in
+      let ih = behind (λ y₁ y₂ y₃. Inserted l l' c₁ c₂ y₁ y₂ y₃ x) way.height_is way.length_is (omega (arith, way.value_is)) (subst (λ y. Inserted y l' c₁ c₂ h' n' v' x) eu below) in
+      let low = leb-false (half h) v (sym way.bit_is) in
+      let at = sym (sp.held h n v) ∙ behind_zero s p q l r h n v way.some low in
       record {
-        held = λ k w in_h. level_zero s (Some x) p q l r h n v l' pos low ih.held k w in_h ∙ ap (λ o. cond (eqb v w && eqb n k) (Some x) o) (sp.held h k w);
+        held = λ k w in_h. level_zero s (Some x) p q l r h n v l' way.some low ih.held k w in_h ∙ ap (λ o. cond (eqb v w && eqb n k) (Some x) o) (sp.held h k w);
         nodes_kept = omega (arith, ih.nodes_kept, sp.nodes_kept);
         rules_are = omega (arith, ih.rules_are, sp.rules_kept, ap {B = ℕ} (λ o. cond (is_some o) 0 1) at);
         node = refl;
         neat_kept = λ e.
             let parts = ready_parts s p q l r h (sp.ready_now h e) in
-            neat_from s p q l' r h (or_right (is_some s) _ (or_left (is_node l') (is_node r) ih.node)) (omega (arith, in_v.0)) (ih.neat_kept parts.0) parts.1;
+            neat_from s p q l' r h (or_right (is_some s) _ (or_left (is_node l') (is_node r) ih.node)) (omega (arith, in_v.0, way.some)) (ih.neat_kept parts.0) parts.1;
       }
 
 module _ {t c : Trie} {s : Option Server} {p q : Box (Unit {0}) Global} {l r : Trie} (h n v : ℕ) (is : t ≡ Node' s p l q r) (in_v : Within h n v) where
@@ -158,32 +162,32 @@ module _ {t c : Trie} {s : Option Server} {p q : Box (Unit {0}) Global} {l r : T
   pub erased_here : (o : Option Server) → o ≡ None → n ≡ 0 → Erased t (Node' o p l q r) c c h n v ready
   erased_here o e none = subst (λ y. Erased t (Node' y p l q r) c c h n v ready) (sym e) (gone none)
 
-  pub erased_one : {u r' c₂ : Trie} {a : ℕ} → 0 < n → a ≡ half h → a ≤ v → u ≡ r → Erased u r' c c₂ (h - 1) (n - 1) (v - a) neat → Erased t (Node' s p l q r') c c₂ h n v ready
-  erased_one {u} {r'} {c₂} {a} pos ea up eu below =
-      let ih = subst (λ y. Erased r r' c c₂ (h - 1) (n - 1) (v - y) neat) ea (subst (λ y. Erased y r' c c₂ (h - 1) (n - 1) (v - a) neat) eu below) in
-      let high : half h ≤ v = omega (arith, ea) in
-      let at = ap (λ y. at_bits y h n v) is ∙ behind_one s p q l r h n v pos high in
+  pub erased_one : {u r' c₂ : Trie} {h' n' v' : ℕ} → Split h n v true h' n' v' → u ≡ r → Erased u r' c c₂ h' n' v' neat → Erased t (Node' s p l q r') c c₂ h n v ready
+  erased_one {u} {r'} {c₂} {h'} {n'} {v'} way eu below =
+      let ih = behind (λ y₁ y₂ y₃. Erased r r' c c₂ y₁ y₂ y₃ neat) way.height_is way.length_is way.value_is (subst (λ y. Erased y r' c c₂ h' n' v' neat) eu below) in
+      let high = leb-true (half h) v (sym way.bit_is) in
+      let at = ap (λ y. at_bits y h n v) is ∙ behind_one s p q l r h n v way.some high in
       record {
-        held = λ k w in_h. level_one s None p q l r h n v r' pos high ih.held k w in_h ∙ ap (λ y. cond (eqb v w && eqb n k) None (at_bits y h k w)) (sym is);
+        held = λ k w in_h. level_one s None p q l r h n v r' way.some high ih.held k w in_h ∙ ap (λ y. cond (eqb v w && eqb n k) None (at_bits y h k w)) (sym is);
         nodes_kept = omega (arith, ih.nodes_kept, ap nodes is);
         rules_are = omega (arith, ih.rules_are, ap rules is, ap {B = ℕ} (λ o. cond (is_some o) 1 0) at);
         neat_kept = λ e.
             let parts = ready_parts s p q l r h (neat_ready s p q l r h (ap (λ y. neat y h) (sym is) ∙ e)) in
-            ready_from s p q l r' h (omega (arith, in_v.0)) parts.0 (ih.neat_kept parts.1);
+            ready_from s p q l r' h (omega (arith, in_v.0, way.some)) parts.0 (ih.neat_kept parts.1);
       }
 
-  pub erased_zero : {u l' c₂ : Trie} {a : ℕ} → 0 < n → a ≡ half h → v < a → u ≡ l → Erased u l' c c₂ (h - 1) (n - 1) v neat → Erased t (Node' s p l' q r) c c₂ h n v ready
-  erased_zero {u} {l'} {c₂} {a} pos ea down eu below =
-      let ih = subst (λ y. Erased y l' c c₂ (h - 1) (n - 1) v neat) eu below in
-      let low : v < half h = omega (arith, ea) in
-      let at = ap (λ y. at_bits y h n v) is ∙ behind_zero s p q l r h n v pos low in
+  pub erased_zero : {u l' c₂ : Trie} {h' n' v' : ℕ} → Split h n v false h' n' v' → u ≡ l → Erased u l' c c₂ h' n' v' neat → Erased t (Node' s p l' q r) c c₂ h n v ready
+  erased_zero {u} {l'} {c₂} {h'} {n'} {v'} way eu below =
+      let ih = behind (λ y₁ y₂ y₃. Erased l l' c c₂ y₁ y₂ y₃ neat) way.height_is way.length_is (omega (arith, way.value_is)) (subst (λ y. Erased y l' c c₂ h' n' v' neat) eu below) in
+      let low = leb-false (half h) v (sym way.bit_is) in
+      let at = ap (λ y. at_bits y h n v) is ∙ behind_zero s p q l r h n v way.some low in
       record {
-        held = λ k w in_h. level_zero s None p q l r h n v l' pos low ih.held k w in_h ∙ ap (λ y. cond (eqb v w && eqb n k) None (at_bits y h k w)) (sym is);
+        held = λ k w in_h. level_zero s None p q l r h n v l' way.some low ih.held k w in_h ∙ ap (λ y. cond (eqb v w && eqb n k) None (at_bits y h k w)) (sym is);
         nodes_kept = omega (arith, ih.nodes_kept, ap nodes is);
         rules_are = omega (arith, ih.rules_are, ap rules is, ap {B = ℕ} (λ o. cond (is_some o) 1 0) at);
         neat_kept = λ e.
             let parts = ready_parts s p q l r h (neat_ready s p q l r h (ap (λ y. neat y h) (sym is) ∙ e)) in
-            ready_from s p q l' r h (omega (arith, in_v.0)) (ih.neat_kept parts.0) parts.1;
+            ready_from s p q l' r h (omega (arith, in_v.0, way.some)) (ih.neat_kept parts.0) parts.1;
       }
 
 -- a cut, and then the idle node

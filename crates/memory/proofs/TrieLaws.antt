@@ -188,3 +188,8 @@ empty_is (Node' s p a q b) e = absurd (false≢true (sym e))
 -- there are nodes for a put
 pub nodes_left : (t c : Trie) (n v l : ℕ) → neat t 32 ≡ true → nodes t + spares c ≡ 8481 → rules t ≡ n → n ≤ 256 → formed v l ≡ true → l < spares c
 nodes_left t c n v l tidy all are few f = omega (arith, few_nodes t 32 tidy, (formed_parts v l f).0)
+
+-- an answer that is not none
+pub some_of : (o : Option Server) → is_some o ≡ true → (s : Server) × (o ≡ Some s)
+some_of None e = absurd (false≢true e)
+some_of (Some s) e = (s, refl)

@@ -30,6 +30,14 @@ abbrev pub is_node : Trie → Bool
 is_node Empty = false
 is_node (Node' s p l q r) = true
 
+-- The first bit of n of the h bits of v, and what is behind it: n' of the h' bits of v'.
+pub record Split (h n v : ℕ) (bit : Bool) (h' n' v' : ℕ) : Type 0 where
+  pub some : 0 < n
+  pub bit_is : bit ≡ nat_le (half h) v
+  pub height_is : h' ≡ h - 1
+  pub length_is : n' ≡ n - 1
+  pub value_is : v' ≡ v - cond bit (half h) 0
+
 -- A node that holds nothing, over two empty tries.
 abbrev pub bare : Trie → Bool
 bare Empty = false

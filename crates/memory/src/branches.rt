@@ -8,6 +8,7 @@ ghost use Rattle.std.proofs.Common.{le_trans, lit≤};
 
 use crate::fitting::Fitting;
 use crate::key::{KeyRule, Prefix};
+use crate::path::Path;
 use crate::reader::Reader;
 use crate::rule_memory::RuleMemory;
 use crate::trie::{Trie, spare_nodes};
@@ -61,11 +62,7 @@ impl Reader for Branches {
     }
 
     fn held(&self, prefix: Prefix) -> Option<Server> {
-        if prefix.is_well_formed() {
-            self.root.held(32, prefix.value, prefix.length)
-        } else {
-            None
-        }
+        self.root.held(Path::of(prefix)?)
     }
 
     fn count(&self) -> u32 {
@@ -83,51 +80,28 @@ impl RuleMemory for Branches {
     }
 
     fn put(&mut self, rule: KeyRule) -> Result<(), Refusal> {
-        let prefix = rule.prefix;
-        if !prefix.is_well_formed() {
+        let Some(path) = Path::of(rule.prefix) else {
             return Err(Refusal::BrokenLayout);
+        };
+        let fresh = self.root.held(path).is_none();
+        if fresh && self.count >= self.capacity {
+            return Err(Refusal::MemoryFull);
         }
-        match self.root.held(32, prefix.value, prefix.length) {
-            Some(_) => {
-                self.root.insert(
-                    &mut self.spare,
-                    32,
-                    prefix.value,
-                    prefix.length,
-                    rule.server,
-                );
-                Ok(())
-            }
-            None => {
-                if self.count >= self.capacity {
-                    return Err(Refusal::MemoryFull);
-                }
-                self.root.insert(
-                    &mut self.spare,
-                    32,
-                    prefix.value,
-                    prefix.length,
-                    rule.server,
-                );
-                self.count += 1;
-                Ok(())
-            }
-        }
+        self.root.insert(&mut self.spare, path, rule.server);
+        self.count += u32::from(fresh);
+        Ok(())
     }
 
     fn remove(&mut self, prefix: Prefix) -> Result<bool, Refusal> {
-        if !prefix.is_well_formed() {
+        let Some(path) = Path::of(prefix) else {
             return Err(Refusal::BrokenLayout);
+        };
+        if self.root.held(path).is_none() {
+            return Ok(false);
         }
-        match self.root.held(32, prefix.value, prefix.length) {
-            None => Ok(false),
-            Some(_) => {
-                self.root
-                    .erase(&mut self.spare, 32, prefix.value, prefix.length);
-                self.count -= 1;
-                Ok(true)
-            }
-        }
+        self.root.erase(&mut self.spare, path);
+        self.count -= 1;
+        Ok(true)
     }
 }
 

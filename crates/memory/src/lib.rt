@@ -5,6 +5,7 @@ pub mod branches;
 pub mod contents;
 pub mod fitting;
 pub mod key;
+mod path;
 pub mod reader;
 mod row;
 pub mod rule_memory;

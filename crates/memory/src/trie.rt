@@ -1,7 +1,8 @@
 // A binary trie over the bits of a key, the highest first, and a chain of spare nodes.
 ghost use Rattle.std.specs.Prelude.{◌≡◌, ◌+◌, ◌-◌, ◌*◌, ◌<◌, ◌≤◌, true, false, not, IfOk, Some, None};
-ghost use Rattle.memory.specs.Tries.{at_bits, look_in, half, spares, nodes, is_node, bare, neat, ready, Within, Opened, Inserted, Pruned, Erased};
+ghost use Rattle.memory.specs.Tries.{at_bits, look_in, spares, nodes, is_node, bare, neat, ready, Opened, Inserted, Pruned, Erased};
 
+use crate::path::Path;
 use rules::server::Server;
 use std::alloc::{AllocError, Global};
 use std::mem::swap;
@@ -27,14 +28,6 @@ impl Drop for Trie {
     }
 }
 
-// What the first of `height` bits stands for.
-fn top(height: u32) -> u32
-    requires { (0 < height) × (height ≤ 32) }
-    ensures { result ≡ half height }
-{
-    1u32 << (height - 1)
-}
-
 // A chain of `count` spare nodes.
 pub(crate) fn spare_nodes(heap: Global, count: usize) -> Result<Trie, AllocError>
     ensures { IfOk result (λ t. spares t ≡ count) }
@@ -49,24 +42,17 @@ pub(crate) fn spare_nodes(heap: Global, count: usize) -> Result<Trie, AllocError
 }
 
 impl Trie {
-    // The server at a prefix: `length` bits of a value that has `height` bits.
-    pub(crate) fn held(&self, height: u32, value: u32, length: u32) -> Option<Server>
-        requires { (length ≤ height) × (height ≤ 32) }
-        ensures { result ≡ at_bits self.now height length value }
+    // The server at the end of a path.
+    pub(crate) fn held(&self, path: Path) -> Option<Server>
+        ensures { result ≡ at_bits self.now path.height path.length path.value }
     {
         match self {
             Trie::Empty => None,
-            Trie::Node(server, zero, one) => {
-                if length == 0 {
-                    return *server;
-                }
-                let half = top(height);
-                if half <= value {
-                    one.held(height - 1, value - half, length - 1)
-                } else {
-                    zero.held(height - 1, value, length - 1)
-                }
-            }
+            Trie::Node(server, zero, one) => match path.split_first() {
+                None => *server,
+                Some((false, rest)) => zero.held(rest),
+                Some((true, rest)) => one.held(rest),
+            },
         }
     }
 
@@ -76,21 +62,14 @@ impl Trie {
     {
         let mut node = self;
         let mut best = None;
-        let mut height = 32;
-        let mut rest = key;
+        let mut path = Path::whole(key);
         while let Trie::Node(server, zero, one) = node {
             best = server.or(best);
-            if height == 0 {
+            let Some((bit, rest)) = path.split_first() else {
                 return best;
-            }
-            let half = top(height);
-            height -= 1;
-            if half <= rest {
-                rest -= half;
-                node = one;
-            } else {
-                node = zero;
-            }
+            };
+            path = rest;
+            node = if bit { one } else { zero };
         }
         best
     }
@@ -156,64 +135,41 @@ impl Trie {
         }
     }
 
-    // Holds a server at a prefix; nodes come off the chain.
-    pub(crate) fn insert(
-        &mut self,
-        chain: &mut Trie,
-        height: u32,
-        value: u32,
-        length: u32,
-        server: Server,
-    )
-        requires path { Within height length value }
-        requires low { height ≤ 32 }
-        requires some { length < spares chain.old }
-        ensures { Inserted self.old self.new chain.old chain.new height length value server }
+    // Holds a server at the end of a path; nodes come off the chain.
+    pub(crate) fn insert(&mut self, chain: &mut Trie, path: Path, server: Server)
+        requires { path.length < spares chain.old }
+        ensures { Inserted self.old self.new chain.old chain.new path.height path.length path.value server }
     {
         self.open(chain);
         if let Trie::Node(held, zero, one) = self {
-            if length == 0 {
-                *held = Some(server);
-                return;
-            }
-            let half = top(height);
-            if half <= value {
-                one.insert(chain, height - 1, value - half, length - 1, server);
-            } else {
-                zero.insert(chain, height - 1, value, length - 1, server);
+            match path.split_first() {
+                None => *held = Some(server),
+                Some((false, rest)) => zero.insert(chain, rest, server),
+                Some((true, rest)) => one.insert(chain, rest, server),
             }
         }
     }
 
-    // Holds nothing at a prefix; bare nodes below the first go back to the chain.
-    fn clear(&mut self, chain: &mut Trie, height: u32, value: u32, length: u32)
-        requires path { Within height length value }
-        requires low { height ≤ 32 }
-        ensures { Erased self.old self.new chain.old chain.new height length value ready }
+    // Holds nothing at the end of a path; bare nodes below the first go back to the chain.
+    #[cycle(erase)]
+    fn clear(&mut self, chain: &mut Trie, path: Path)
+        ensures { Erased self.old self.new chain.old chain.new path.height path.length path.value ready }
     {
         if let Trie::Node(held, zero, one) = self {
-            if length == 0 {
-                *held = None;
-                return;
-            }
-            let half = top(height);
-            if half <= value {
-                one.clear(chain, height - 1, value - half, length - 1);
-                one.prune(chain);
-            } else {
-                zero.clear(chain, height - 1, value, length - 1);
-                zero.prune(chain);
+            match path.split_first() {
+                None => *held = None,
+                Some((false, rest)) => zero.erase(chain, rest),
+                Some((true, rest)) => one.erase(chain, rest),
             }
         }
     }
 
-    // Holds nothing at a prefix; bare nodes go back to the chain.
-    pub(crate) fn erase(&mut self, chain: &mut Trie, height: u32, value: u32, length: u32)
-        requires path { Within height length value }
-        requires low { height ≤ 32 }
-        ensures { Erased self.old self.new chain.old chain.new height length value neat }
+    // Holds nothing at the end of a path; bare nodes go back to the chain.
+    #[cycle(erase)]
+    pub(crate) fn erase(&mut self, chain: &mut Trie, path: Path)
+        ensures { Erased self.old self.new chain.old chain.new path.height path.length path.value neat }
     {
-        self.clear(chain, height, value, length);
+        self.clear(chain, path);
         self.prune(chain);
     }
 

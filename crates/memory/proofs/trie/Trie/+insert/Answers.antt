@@ -1,19 +1,29 @@
-use Rattle.std.proofs.Common.{refl, arith}
-use Rattle.memory.proofs.Halves.{within_one_at}
+use Rattle.std.proofs.Common.{refl, subst, arith}
+use Rattle.memory.specs.Tries.{Split}
 use Rattle.memory.proofs.Levels.{inserted_here, inserted_one, inserted_zero}
 use Rattle.memory.proofs.trie.Trie.+insert.Goals as goal
 
-pub returns-then-length-eq0 : goal.returns-then-length-eq0
-returns-then-length-eq0 t c = inserted_here c.args.height c.args.length c.args.value c.args.server c.open.ensures c.in-Node.is c.requires.path _ refl c.if-length-eq0.true
-
 pub insert-requires : goal.insert-requires
 insert-requires t c =
-    (omega arith, (within_one_at c.args.height c.args.length c.args.value c.top-half.result c.top-half.ensures c.requires.path (omega arith) c.if-half-value.true, (omega arith, omega (arith, c.open.ensures.one_less))))
+    let way = c.in-Some-true-default.ensures in
+    (omega (arith, way.some, way.length_is), omega (arith, way.some, way.length_is, c.open.ensures.one_less))
 
-pub returns-then-half-value : goal.returns-then-half-value
-returns-then-half-value t c =
-    inserted_one c.args.height c.args.length c.args.value c.args.server c.open.ensures c.in-Node.is c.requires.path (omega arith) c.top-half.ensures c.if-half-value.true c.deref_mut.ensures.value c.insert.ensures
+pub insert-requires-in-Some-false-default : goal.insert-requires-in-Some-false-default
+insert-requires-in-Some-false-default t c =
+    let way = c.in-Some-false-default.ensures in
+    (omega (arith, way.some, way.length_is), omega (arith, way.some, way.length_is, c.open.ensures.one_less))
 
-pub returns-else-half-value : goal.returns-else-half-value
-returns-else-half-value t c =
-    inserted_zero c.args.height c.args.length c.args.value c.args.server c.open.ensures c.in-Node.is c.requires.path (omega arith) c.top-half.ensures c.if-half-value.false c.deref_mut-else-half-value.ensures.value c.insert-else-half-value.ensures
+pub returns-in-None : goal.returns-in-None
+returns-in-None t c =
+    let path = c.args.path in
+    inserted_here path.height path.length path.value c.args.server c.open.ensures c.in-Node.is path.within _ refl c.in-None.ensures
+
+pub returns-in-Some-true-default : goal.returns-in-Some-true-default
+returns-in-Some-true-default t c =
+    let path = c.args.path in
+    inserted_one path.height path.length path.value c.args.server c.open.ensures c.in-Node.is path.within (subst (λ b. Split path.height path.length path.value b c.in-Some-true-default.rest.height c.in-Some-true-default.rest.length c.in-Some-true-default.rest.value) c.in-Some-true-default.field-0-0-test c.in-Some-true-default.ensures) c.deref_mut.ensures.value c.insert.ensures
+
+pub returns-in-Some-false-default : goal.returns-in-Some-false-default
+returns-in-Some-false-default t c =
+    let path = c.args.path in
+    inserted_zero path.height path.length path.value c.args.server c.open.ensures c.in-Node.is path.within (subst (λ b. Split path.height path.length path.value b c.in-Some-false-default.rest.height c.in-Some-false-default.rest.length c.in-Some-false-default.rest.value) c.in-Some-false-default.field-0-0-test c.in-Some-false-default.ensures) c.deref_mut-in-Some-false-default.ensures.value c.insert-in-Some-false-default.ensures
