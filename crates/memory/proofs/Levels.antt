@@ -2,12 +2,17 @@
 use Rattle.std.proofs.Common.{◌≡◌, ℕ, ◌+◌, ◌-◌, ◌<◌, ◌≤◌, Bool, true, false, cond, not, ◌&&◌, ◌||◌, eqb, ltb, leb, is_some, Some, None, Option, Box, sym, refl, ap, ◌∙◌, subst, arith}
 use Rattle.std.proofs.lemmas.Bool.{and_parts, and_from, and_left, and_right, or_left, or_right, eqb-true, eqb-false, eq-eqb, ne_eqb, leb-true, leb-false, le-leb, lt-leb, lt-ltb, cond-true, cond-false}
 use Rattle.std.proofs.lemmas.Bool.Decides.{nat_tests}
+use Rattle.std.proofs.lemmas.Option.{none-some, same_Some}
+use Rattle.std.specs.Box.{with_value}
 use Rattle.std.specs.declared.alloc.Global.{Global}
 use Rattle.rules.specs.declared.server.Server.{Server}
-use Rattle.memory.specs.declared.trie.Trie.{Trie}
-use Rattle.memory.specs.declared.trie.Trie.TheVariants.{Node'}
-use Rattle.memory.specs.Tries.{half, at_bits, Within, is_node, nodes, rules, neat, ready, spares, Split, Opened, Inserted, Pruned, Erased}
+use Rattle.memory.specs.declared.trie.Trie.{Trie, Trie', None', Some', out-Trie, roll-Trie}
+use Rattle.memory.specs.declared.trie.Node.{Node, Node', out-Node, roll-Node}
+use Rattle.memory.specs.Tries.{child, with_child, half, at_bits, Within, is_node, nodes, rules, neat, ready, spares, Split, Opened, Inserted, Pruned, Erased}
 use Rattle.memory.proofs.Halves.{within_one, within_zero, within_none}
+
+abbrev pub node : Option Server → Box (Unit {0}) Global → Trie → Trie → Trie
+node s p l r = Trie' (Some' p (Node' s l r))
 
 -- the same question one bit further
 shift_one : (a v w n k : ℕ) → a ≤ v → a ≤ w → 0 < n → 0 < k → (eqb (v - a) (w - a) && eqb (n - 1) (k - 1)) ≡ (eqb v w && eqb n k)
@@ -17,18 +22,18 @@ shift_zero : (v w n k : ℕ) → 0 < n → 0 < k → (eqb v w && eqb (n - 1) (k 
 shift_zero v w n k r s = grind (arith, nat_tests)
 
 -- what is held behind the first bit
-pub behind_one : (s : Option Server) (p q : Box (Unit {0}) Global) (l r : Trie) (h n v : ℕ) → 0 < n → half h ≤ v → at_bits (Node' s p l q r) h n v ≡ at_bits r (h - 1) (n - 1) (v - half h)
-behind_one s p q l r h n v pos up =
+pub behind_one : (s : Option Server) (p : Box (Unit {0}) Global) (l r : Trie) (h n v : ℕ) → 0 < n → half h ≤ v → at_bits (node s p l r) h n v ≡ at_bits r (h - 1) (n - 1) (v - half h)
+behind_one s p l r h n v pos up =
     cond-false (eqb n 0) s _ (ne_eqb n 0 (λ e. omega arith)) ∙ cond-true (leb (half h) v) (at_bits r (h - 1) (n - 1) (v - half h)) (at_bits l (h - 1) (n - 1) v) (le-leb (half h) v up)
 
-pub behind_zero : (s : Option Server) (p q : Box (Unit {0}) Global) (l r : Trie) (h n v : ℕ) → 0 < n → v < half h → at_bits (Node' s p l q r) h n v ≡ at_bits l (h - 1) (n - 1) v
-behind_zero s p q l r h n v pos low =
+pub behind_zero : (s : Option Server) (p : Box (Unit {0}) Global) (l r : Trie) (h n v : ℕ) → 0 < n → v < half h → at_bits (node s p l r) h n v ≡ at_bits l (h - 1) (n - 1) v
+behind_zero s p l r h n v pos low =
     cond-false (eqb n 0) s _ (ne_eqb n 0 (λ e. omega arith)) ∙ cond-false (leb (half h) v) (at_bits r (h - 1) (n - 1) (v - half h)) (at_bits l (h - 1) (n - 1) v) (lt-leb (half h) v low)
 
-module _ (s o : Option Server) (p q : Box (Unit {0}) Global) (l r : Trie) (h n v : ℕ) where
+module _ (s o : Option Server) (p : Box (Unit {0}) Global) (l r : Trie) (h n v : ℕ) where
   level_one : (r' : Trie) → 0 < n → half h ≤ v
       → ((k w : ℕ) → Within (h - 1) k w → at_bits r' (h - 1) k w ≡ cond (eqb (v - half h) w && eqb (n - 1) k) o (at_bits r (h - 1) k w))
-      → (k w : ℕ) → Within h k w → at_bits (Node' s p l q r') h k w ≡ cond (eqb v w && eqb n k) o (at_bits (Node' s p l q r) h k w)
+      → (k w : ℕ) → Within h k w → at_bits (node s p l r') h k w ≡ cond (eqb v w && eqb n k) o (at_bits (node s p l r) h k w)
   level_one r' pos up ih k w in_h = by (eqb k 0) (leb (half h) w) refl refl
     where
       by : (z b : Bool) → eqb k 0 ≡ z → leb (half h) w ≡ b
@@ -44,7 +49,7 @@ module _ (s o : Option Server) (p q : Box (Unit {0}) Global) (l r : Trie) (h n v
 
   level_zero : (l' : Trie) → 0 < n → v < half h
       → ((k w : ℕ) → Within (h - 1) k w → at_bits l' (h - 1) k w ≡ cond (eqb v w && eqb (n - 1) k) o (at_bits l (h - 1) k w))
-      → (k w : ℕ) → Within h k w → at_bits (Node' s p l' q r) h k w ≡ cond (eqb v w && eqb n k) o (at_bits (Node' s p l q r) h k w)
+      → (k w : ℕ) → Within h k w → at_bits (node s p l' r) h k w ≡ cond (eqb v w && eqb n k) o (at_bits (node s p l r) h k w)
   level_zero l' pos low ih k w in_h = by (eqb k 0) (leb (half h) w) refl refl
     where
       by : (z b : Bool) → eqb k 0 ≡ z → leb (half h) w ≡ b
@@ -59,7 +64,7 @@ module _ (s o : Option Server) (p q : Box (Unit {0}) Global) (l r : Trie) (h n v
           ∙ ap (λ t. cond t o (at_bits l (h - 1) (k - 1) w)) (shift_zero v w n k pos more)
 
   level_here : n ≡ 0 → Within h n v
-      → (k w : ℕ) → Within h k w → at_bits (Node' o p l q r) h k w ≡ cond (eqb v w && eqb n k) o (at_bits (Node' s p l q r) h k w)
+      → (k w : ℕ) → Within h k w → at_bits (node o p l r) h k w ≡ cond (eqb v w && eqb n k) o (at_bits (node s p l r) h k w)
   level_here none in_v k w in_h = by (eqb k 0) refl
     where
       by : (z : Bool) → eqb k 0 ≡ z
@@ -77,19 +82,19 @@ pub behind : (P : ℕ → ℕ → ℕ → Type 0) {h h' n n' v v' : ℕ} → h' 
 behind P {h} {h'} {n} {n'} {v} {v'} eh en ev p = subst (λ y. P y n v) eh (subst (λ y. P h' y v) en (subst (P h' n') ev p))
 
 -- how neat a node is
-neat_from : (s : Option Server) (p q : Box (Unit {0}) Global) (l r : Trie) (h : ℕ) → (is_some s || (is_node l || is_node r)) ≡ true → 0 < h → neat l (h - 1) ≡ true → neat r (h - 1) ≡ true → neat (Node' s p l q r) h ≡ true
-neat_from s p q l r h b pos x y =
+neat_from : (s : Option Server) (p : Box (Unit {0}) Global) (l r : Trie) (h : ℕ) → (is_some s || (is_node l || is_node r)) ≡ true → 0 < h → neat l (h - 1) ≡ true → neat r (h - 1) ≡ true → neat (node s p l r) h ≡ true
+neat_from s p l r h b pos x y =
     and_from (is_some s || (is_node l || is_node r)) _ b (and_from (ltb 0 h || not (is_node l || is_node r)) _ (or_left (ltb 0 h) (not (is_node l || is_node r)) (lt-ltb 0 h pos)) (and_from (neat l (h - 1)) (neat r (h - 1)) x y))
 
-ready_from : (s : Option Server) (p q : Box (Unit {0}) Global) (l r : Trie) (h : ℕ) → 0 < h → neat l (h - 1) ≡ true → neat r (h - 1) ≡ true → ready (Node' s p l q r) h ≡ true
-ready_from s p q l r h pos x y =
+ready_from : (s : Option Server) (p : Box (Unit {0}) Global) (l r : Trie) (h : ℕ) → 0 < h → neat l (h - 1) ≡ true → neat r (h - 1) ≡ true → ready (node s p l r) h ≡ true
+ready_from s p l r h pos x y =
     and_from (ltb 0 h || not (is_node l || is_node r)) _ (or_left (ltb 0 h) (not (is_node l || is_node r)) (lt-ltb 0 h pos)) (and_from (neat l (h - 1)) (neat r (h - 1)) x y)
 
-ready_parts : (s : Option Server) (p q : Box (Unit {0}) Global) (l r : Trie) (h : ℕ) → ready (Node' s p l q r) h ≡ true → (neat l (h - 1) ≡ true) × (neat r (h - 1) ≡ true)
-ready_parts s p q l r h e = and_parts (neat l (h - 1)) (neat r (h - 1)) (and_parts (ltb 0 h || not (is_node l || is_node r)) _ e).1
+ready_parts : (s : Option Server) (p : Box (Unit {0}) Global) (l r : Trie) (h : ℕ) → ready (node s p l r) h ≡ true → (neat l (h - 1) ≡ true) × (neat r (h - 1) ≡ true)
+ready_parts s p l r h e = and_parts (neat l (h - 1)) (neat r (h - 1)) (and_parts (ltb 0 h || not (is_node l || is_node r)) _ e).1
 
-neat_ready : (s : Option Server) (p q : Box (Unit {0}) Global) (l r : Trie) (h : ℕ) → neat (Node' s p l q r) h ≡ true → ready (Node' s p l q r) h ≡ true
-neat_ready s p q l r h e = (and_parts (is_some s || (is_node l || is_node r)) _ e).1
+neat_ready : (s : Option Server) (p : Box (Unit {0}) Global) (l r : Trie) (h : ℕ) → neat (node s p l r) h ≡ true → ready (node s p l r) h ≡ true
+neat_ready s p l r h e = (and_parts (is_some s || (is_node l || is_node r)) _ e).1
 
 more : (s : Option Server) (k : ℕ) → 1 + k ≡ (cond (is_some s) 1 0 + k) + cond (is_some s) 0 1
 more None k = omega arith
@@ -99,96 +104,140 @@ less : (s : Option Server) (k : ℕ) → (0 + k) + cond (is_some s) 1 0 ≡ cond
 less None k = omega arith
 less (Some x) k = omega arith
 
-module _ {t g c c₁ : Trie} {s : Option Server} {p q : Box (Unit {0}) Global} {l r : Trie} (h n v : ℕ) (x : Server)
-    (first : Opened t g c c₁) (is : g ≡ Node' s p l q r) (in_v : Within h n v) where
-  here : n ≡ 0 → Inserted t (Node' (Some x) p l q r) c c₁ h n v x
+module _ {t g c c₁ : Trie} {s : Option Server} {p : Box (Unit {0}) Global} {l r : Trie} (h n v : ℕ) (x : Server)
+    (first : Opened t g c c₁) (is : g ≡ node s p l r) (in_v : Within h n v) where
+  here : n ≡ 0 → Inserted t (node (Some x) p l r) c c₁ h n v x
   here none =
       let sp = subst (λ u. Opened t u c c₁) is first in
       let at = sym (sp.held h n v) ∙ cond-true (eqb n 0) s (cond (leb (half h) v) (at_bits r (h - 1) (n - 1) (v - half h)) (at_bits l (h - 1) (n - 1) v)) (eq-eqb n 0 none) in
       record {
-        held = λ k w in_h. level_here s (Some x) p q l r h n v none in_v k w in_h ∙ ap (λ o. cond (eqb v w && eqb n k) (Some x) o) (sp.held h k w);
+        held = λ k w in_h. level_here s (Some x) p l r h n v none in_v k w in_h ∙ ap (λ o. cond (eqb v w && eqb n k) (Some x) o) (sp.held h k w);
         nodes_kept = sp.nodes_kept;
         rules_are = more s (rules l + rules r) ∙ ap (λ m. m + cond (is_some s) 0 1) sp.rules_kept ∙ ap (λ o. rules t + cond (is_some o) 0 1) (sym at);
         node = refl;
         neat_kept = λ e. sp.ready_now h e;
       }
 
-  pub inserted_here : (o : Option Server) → o ≡ Some x → n ≡ 0 → Inserted t (Node' o p l q r) c c₁ h n v x
-  inserted_here o e none = subst (λ y. Inserted t (Node' y p l q r) c c₁ h n v x) (sym e) (here none)
+  pub inserted_here : (o : Option Server) → o ≡ Some x → n ≡ 0 → Inserted t (node o p l r) c c₁ h n v x
+  inserted_here o e none = subst (λ y. Inserted t (node y p l r) c c₁ h n v x) (sym e) (here none)
 
-  pub inserted_one : {u r' c₂ : Trie} {h' n' v' : ℕ} → Split h n v true h' n' v' → u ≡ r → Inserted u r' c₁ c₂ h' n' v' x → Inserted t (Node' s p l q r') c c₂ h n v x
+  pub inserted_one : {u r' c₂ : Trie} {h' n' v' : ℕ} → Split h n v true h' n' v' → u ≡ r → Inserted u r' c₁ c₂ h' n' v' x → Inserted t (node s p l r') c c₂ h n v x
   inserted_one {u} {r'} {c₂} {h'} {n'} {v'} way eu below =
       let sp = subst (λ y. Opened t y c c₁) is first in
       let ih = behind (λ y₁ y₂ y₃. Inserted r r' c₁ c₂ y₁ y₂ y₃ x) way.height_is way.length_is way.value_is (subst (λ y. Inserted y r' c₁ c₂ h' n' v' x) eu below) in
       let high = leb-true (half h) v (sym way.bit_is) in
-      let at = sym (sp.held h n v) ∙ behind_one s p q l r h n v way.some high in
+      let at = sym (sp.held h n v) ∙ behind_one s p l r h n v way.some high in
       record {
-        held = λ k w in_h. level_one s (Some x) p q l r h n v r' way.some high ih.held k w in_h ∙ ap (λ o. cond (eqb v w && eqb n k) (Some x) o) (sp.held h k w);
+        held = λ k w in_h. level_one s (Some x) p l r h n v r' way.some high ih.held k w in_h ∙ ap (λ o. cond (eqb v w && eqb n k) (Some x) o) (sp.held h k w);
         nodes_kept = omega (arith, ih.nodes_kept, sp.nodes_kept);
         rules_are = omega (arith, ih.rules_are, sp.rules_kept, ap {B = ℕ} (λ o. cond (is_some o) 0 1) at);
         node = refl;
         neat_kept = λ e.
-            let parts = ready_parts s p q l r h (sp.ready_now h e) in
-            neat_from s p q l r' h (or_right (is_some s) _ (or_right (is_node l) (is_node r') ih.node)) (omega (arith, in_v.0, way.some)) parts.0 (ih.neat_kept parts.1);
+            let parts = ready_parts s p l r h (sp.ready_now h e) in
+            neat_from s p l r' h (or_right (is_some s) _ (or_right (is_node l) (is_node r') ih.node)) (omega (arith, in_v.0, way.some)) parts.0 (ih.neat_kept parts.1);
       }
 
-  pub inserted_zero : {u l' c₂ : Trie} {h' n' v' : ℕ} → Split h n v false h' n' v' → u ≡ l → Inserted u l' c₁ c₂ h' n' v' x → Inserted t (Node' s p l' q r) c c₂ h n v x
+  pub inserted_zero : {u l' c₂ : Trie} {h' n' v' : ℕ} → Split h n v false h' n' v' → u ≡ l → Inserted u l' c₁ c₂ h' n' v' x → Inserted t (node s p l' r) c c₂ h n v x
   inserted_zero {u} {l'} {c₂} {h'} {n'} {v'} way eu below =
       let sp = subst (λ y. Opened t y c c₁) is first in
       let ih = behind (λ y₁ y₂ y₃. Inserted l l' c₁ c₂ y₁ y₂ y₃ x) way.height_is way.length_is (omega (arith, way.value_is)) (subst (λ y. Inserted y l' c₁ c₂ h' n' v' x) eu below) in
       let low = leb-false (half h) v (sym way.bit_is) in
-      let at = sym (sp.held h n v) ∙ behind_zero s p q l r h n v way.some low in
+      let at = sym (sp.held h n v) ∙ behind_zero s p l r h n v way.some low in
       record {
-        held = λ k w in_h. level_zero s (Some x) p q l r h n v l' way.some low ih.held k w in_h ∙ ap (λ o. cond (eqb v w && eqb n k) (Some x) o) (sp.held h k w);
+        held = λ k w in_h. level_zero s (Some x) p l r h n v l' way.some low ih.held k w in_h ∙ ap (λ o. cond (eqb v w && eqb n k) (Some x) o) (sp.held h k w);
         nodes_kept = omega (arith, ih.nodes_kept, sp.nodes_kept);
         rules_are = omega (arith, ih.rules_are, sp.rules_kept, ap {B = ℕ} (λ o. cond (is_some o) 0 1) at);
         node = refl;
         neat_kept = λ e.
-            let parts = ready_parts s p q l r h (sp.ready_now h e) in
-            neat_from s p q l' r h (or_right (is_some s) _ (or_left (is_node l') (is_node r) ih.node)) (omega (arith, in_v.0, way.some)) (ih.neat_kept parts.0) parts.1;
+            let parts = ready_parts s p l r h (sp.ready_now h e) in
+            neat_from s p l' r h (or_right (is_some s) _ (or_left (is_node l') (is_node r) ih.node)) (omega (arith, in_v.0, way.some)) (ih.neat_kept parts.0) parts.1;
       }
 
-module _ {t c : Trie} {s : Option Server} {p q : Box (Unit {0}) Global} {l r : Trie} (h n v : ℕ) (is : t ≡ Node' s p l q r) (in_v : Within h n v) where
-  gone : n ≡ 0 → Erased t (Node' None p l q r) c c h n v ready
+-- the trie of a node in a box
+abbrev pub boxed : Box Node Global → Trie
+boxed b = Trie' (Some' (record { ptr = b.ptr; alloc = b.alloc; value = tt }) b.value)
+
+pub rolled : (b : Box Node Global) → boxed b ≡ roll-Trie (record { 0 = Some b })
+unfolding roll-Trie denote.Hole.Carrier.roll
+rolled b = refl
+
+pub shown : (g : Trie) (b : Box Node Global) → (out-Trie g).0 ≡ Some b → g ≡ boxed b
+unfolding out-Trie denote.Hole.Carrier.out
+shown (Trie' None') b e = absurd (none-some b e)
+shown (Trie' (Some' p m)) b e = ap (λ x. Trie' (Some' (record { ptr = x.ptr; alloc = x.alloc; value = tt }) x.value)) (same_Some _ b e)
+
+-- the same of a node in a box, by its bits
+module _ {t g c c₁ : Trie} (b : Box Node Global) (h n v : ℕ) (x : Server) (first : Opened t g c c₁) (is : (out-Trie g).0 ≡ Some b) (in_v : Within h n v) where
+  pub inserted_end : (m : Node) → m ≡ b.value → n ≡ 0 → Inserted t (roll-Trie (record { 0 = Some (with_value b (roll-Node (record { server = Some x; zero = (out-Node m).zero; one = (out-Node m).one }))) })) c c₁ h n v x
+  unfolding out-Node roll-Node denote.Hole.Carrier.out denote.Hole.Carrier.roll
+  inserted_end (Node' s l r) em none =
+      subst (λ y. Inserted t y c c₁ h n v x) (rolled (with_value b (Node' (Some x) l r)))
+      (inserted_here h n v x first (shown g b is ∙ ap (λ y. boxed (with_value b y)) (sym em)) in_v (Some x) refl none)
+
+  pub inserted_below : {u u' c₂ : Trie} {bit : Bool} {h' n' v' : ℕ} (m : Node) → m ≡ b.value → Split h n v bit h' n' v' → u ≡ child m bit → Inserted u u' c₁ c₂ h' n' v' x → Inserted t (roll-Trie (record { 0 = Some (with_value b (with_child m bit u')) })) c c₂ h n v x
+  inserted_below {u} {u'} {c₂} {bit} {h'} {n'} {v'} (Node' s l r) em way eu below =
+      by bit (shown g b is ∙ ap (λ y. boxed (with_value b y)) (sym em)) way eu
+    where
+      by : (bit : Bool) → g ≡ boxed (with_value b (Node' s l r)) → Split h n v bit h' n' v' → u ≡ child (Node' s l r) bit → Inserted t (roll-Trie (record { 0 = Some (with_value b (with_child (Node' s l r) bit u')) })) c c₂ h n v x
+      by true is_node way eu = subst (λ y. Inserted t y c c₂ h n v x) (rolled (with_value b (Node' s l u'))) (inserted_one h n v x first is_node in_v way eu below)
+      by false is_node way eu = subst (λ y. Inserted t y c c₂ h n v x) (rolled (with_value b (Node' s u' r))) (inserted_zero h n v x first is_node in_v way eu below)
+
+module _ {t c : Trie} {s : Option Server} {p : Box (Unit {0}) Global} {l r : Trie} (h n v : ℕ) (is : t ≡ node s p l r) (in_v : Within h n v) where
+  gone : n ≡ 0 → Erased t (node None p l r) c c h n v ready
   gone none =
       let at = ap (λ u. at_bits u h n v) is ∙ cond-true (eqb n 0) s (cond (leb (half h) v) (at_bits r (h - 1) (n - 1) (v - half h)) (at_bits l (h - 1) (n - 1) v)) (eq-eqb n 0 none) in
       record {
-        held = λ k w in_h. level_here s None p q l r h n v none in_v k w in_h ∙ ap (λ u. cond (eqb v w && eqb n k) None (at_bits u h k w)) (sym is);
+        held = λ k w in_h. level_here s None p l r h n v none in_v k w in_h ∙ ap (λ u. cond (eqb v w && eqb n k) None (at_bits u h k w)) (sym is);
         nodes_kept = ap (λ u. nodes u + spares c) (sym is);
         rules_are = ap (λ o. (0 + (rules l + rules r)) + cond (is_some o) 1 0) at ∙ less s (rules l + rules r) ∙ ap rules (sym is);
-        neat_kept = λ e. neat_ready s p q l r h (ap (λ u. neat u h) (sym is) ∙ e);
+        neat_kept = λ e. neat_ready s p l r h (ap (λ u. neat u h) (sym is) ∙ e);
       }
 
-  pub erased_here : (o : Option Server) → o ≡ None → n ≡ 0 → Erased t (Node' o p l q r) c c h n v ready
-  erased_here o e none = subst (λ y. Erased t (Node' y p l q r) c c h n v ready) (sym e) (gone none)
+  pub erased_here : (o : Option Server) → o ≡ None → n ≡ 0 → Erased t (node o p l r) c c h n v ready
+  erased_here o e none = subst (λ y. Erased t (node y p l r) c c h n v ready) (sym e) (gone none)
 
-  pub erased_one : {u r' c₂ : Trie} {h' n' v' : ℕ} → Split h n v true h' n' v' → u ≡ r → Erased u r' c c₂ h' n' v' neat → Erased t (Node' s p l q r') c c₂ h n v ready
+  pub erased_one : {u r' c₂ : Trie} {h' n' v' : ℕ} → Split h n v true h' n' v' → u ≡ r → Erased u r' c c₂ h' n' v' neat → Erased t (node s p l r') c c₂ h n v ready
   erased_one {u} {r'} {c₂} {h'} {n'} {v'} way eu below =
       let ih = behind (λ y₁ y₂ y₃. Erased r r' c c₂ y₁ y₂ y₃ neat) way.height_is way.length_is way.value_is (subst (λ y. Erased y r' c c₂ h' n' v' neat) eu below) in
       let high = leb-true (half h) v (sym way.bit_is) in
-      let at = ap (λ y. at_bits y h n v) is ∙ behind_one s p q l r h n v way.some high in
+      let at = ap (λ y. at_bits y h n v) is ∙ behind_one s p l r h n v way.some high in
       record {
-        held = λ k w in_h. level_one s None p q l r h n v r' way.some high ih.held k w in_h ∙ ap (λ y. cond (eqb v w && eqb n k) None (at_bits y h k w)) (sym is);
+        held = λ k w in_h. level_one s None p l r h n v r' way.some high ih.held k w in_h ∙ ap (λ y. cond (eqb v w && eqb n k) None (at_bits y h k w)) (sym is);
         nodes_kept = omega (arith, ih.nodes_kept, ap nodes is);
         rules_are = omega (arith, ih.rules_are, ap rules is, ap {B = ℕ} (λ o. cond (is_some o) 1 0) at);
         neat_kept = λ e.
-            let parts = ready_parts s p q l r h (neat_ready s p q l r h (ap (λ y. neat y h) (sym is) ∙ e)) in
-            ready_from s p q l r' h (omega (arith, in_v.0, way.some)) parts.0 (ih.neat_kept parts.1);
+            let parts = ready_parts s p l r h (neat_ready s p l r h (ap (λ y. neat y h) (sym is) ∙ e)) in
+            ready_from s p l r' h (omega (arith, in_v.0, way.some)) parts.0 (ih.neat_kept parts.1);
       }
 
-  pub erased_zero : {u l' c₂ : Trie} {h' n' v' : ℕ} → Split h n v false h' n' v' → u ≡ l → Erased u l' c c₂ h' n' v' neat → Erased t (Node' s p l' q r) c c₂ h n v ready
+  pub erased_zero : {u l' c₂ : Trie} {h' n' v' : ℕ} → Split h n v false h' n' v' → u ≡ l → Erased u l' c c₂ h' n' v' neat → Erased t (node s p l' r) c c₂ h n v ready
   erased_zero {u} {l'} {c₂} {h'} {n'} {v'} way eu below =
       let ih = behind (λ y₁ y₂ y₃. Erased l l' c c₂ y₁ y₂ y₃ neat) way.height_is way.length_is (omega (arith, way.value_is)) (subst (λ y. Erased y l' c c₂ h' n' v' neat) eu below) in
       let low = leb-false (half h) v (sym way.bit_is) in
-      let at = ap (λ y. at_bits y h n v) is ∙ behind_zero s p q l r h n v way.some low in
+      let at = ap (λ y. at_bits y h n v) is ∙ behind_zero s p l r h n v way.some low in
       record {
-        held = λ k w in_h. level_zero s None p q l r h n v l' way.some low ih.held k w in_h ∙ ap (λ y. cond (eqb v w && eqb n k) None (at_bits y h k w)) (sym is);
+        held = λ k w in_h. level_zero s None p l r h n v l' way.some low ih.held k w in_h ∙ ap (λ y. cond (eqb v w && eqb n k) None (at_bits y h k w)) (sym is);
         nodes_kept = omega (arith, ih.nodes_kept, ap nodes is);
         rules_are = omega (arith, ih.rules_are, ap rules is, ap {B = ℕ} (λ o. cond (is_some o) 1 0) at);
         neat_kept = λ e.
-            let parts = ready_parts s p q l r h (neat_ready s p q l r h (ap (λ y. neat y h) (sym is) ∙ e)) in
-            ready_from s p q l' r h (omega (arith, in_v.0, way.some)) (ih.neat_kept parts.0) parts.1;
+            let parts = ready_parts s p l r h (neat_ready s p l r h (ap (λ y. neat y h) (sym is) ∙ e)) in
+            ready_from s p l' r h (omega (arith, in_v.0, way.some)) (ih.neat_kept parts.0) parts.1;
       }
+
+module _ {t c : Trie} (b : Box Node Global) (h n v : ℕ) (is : (out-Trie t).0 ≡ Some b) (in_v : Within h n v) where
+  pub erased_end : (m : Node) → m ≡ b.value → n ≡ 0 → Erased t (roll-Trie (record { 0 = Some (with_value b (roll-Node (record { server = None; zero = (out-Node m).zero; one = (out-Node m).one }))) })) c c h n v ready
+  unfolding out-Node roll-Node denote.Hole.Carrier.out denote.Hole.Carrier.roll
+  erased_end (Node' s l r) em none =
+      subst (λ y. Erased t y c c h n v ready) (rolled (with_value b (Node' None l r)))
+      (erased_here h n v (shown t b is ∙ ap (λ y. boxed (with_value b y)) (sym em)) in_v None refl none)
+
+  pub erased_below : {u u' c₂ : Trie} {bit : Bool} {h' n' v' : ℕ} (m : Node) → m ≡ b.value → Split h n v bit h' n' v' → u ≡ child m bit → Erased u u' c c₂ h' n' v' neat → Erased t (roll-Trie (record { 0 = Some (with_value b (with_child m bit u')) })) c c₂ h n v ready
+  erased_below {u} {u'} {c₂} {bit} {h'} {n'} {v'} (Node' s l r) em way eu below =
+      by bit (shown t b is ∙ ap (λ y. boxed (with_value b y)) (sym em)) way eu
+    where
+      by : (bit : Bool) → t ≡ boxed (with_value b (Node' s l r)) → Split h n v bit h' n' v' → u ≡ child (Node' s l r) bit → Erased t (roll-Trie (record { 0 = Some (with_value b (with_child (Node' s l r) bit u')) })) c c₂ h n v ready
+      by true is_node way eu = subst (λ y. Erased t y c c₂ h n v ready) (rolled (with_value b (Node' s l u'))) (erased_one h n v is_node in_v way eu below)
+      by false is_node way eu = subst (λ y. Erased t y c c₂ h n v ready) (rolled (with_value b (Node' s u' r))) (erased_zero h n v is_node in_v way eu below)
 
 -- a cut, and then the idle node
 pub tidy : {t t₁ u t₂ c c₁ c₂ : Trie} (h n v : ℕ) → Erased t t₁ c c₁ h n v ready → u ≡ t₁ → Pruned u t₂ c₁ c₂ → Erased t t₂ c c₂ h n v neat

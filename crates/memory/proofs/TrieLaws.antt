@@ -1,29 +1,31 @@
 -- Laws of a whole trie.
 use Rattle.std.proofs.Common.{◌≡◌, ℕ, zero, suc, ◌+◌, ◌-◌, ◌*◌, ◌%◌, ◌^◌, ◌<◌, ◌≤◌, Bool, true, false, cond, not, ◌||◌, eqb, ltb, leb, is_some, Some, None, Option, Box, sym, refl, ap, ◌∙◌, subst, add-mul, mul-add, arith}
 use native.Mathlib.Nat.{mod-le}
-use Rattle.std.proofs.lemmas.Bool.{and_parts, eqb-true, ne_eqb, leb-true, leb-false, ltb-true, false≢true, both_ways, cond-true}
+use Rattle.std.proofs.lemmas.Bool.{and_parts, eqb-true, ne_eqb, leb-true, leb-false, ltb-true, false≢true, both_ways, cond-true, cond-false}
 use Rattle.std.proofs.lemmas.Bool.Decides.{nat_tests}
 use Rattle.std.specs.Option.{option_or}
+use Rattle.std.specs.Box.{with_value}
 use Rattle.std.specs.declared.alloc.Global.{Global}
 use Rattle.rules.specs.declared.server.Server.{Server}
 use Rattle.memory.specs.declared.key.Prefix.{Prefix}
-use Rattle.memory.specs.declared.trie.Trie.{Trie}
-use Rattle.memory.specs.declared.trie.Trie.TheVariants.{Empty, Node'}
+use Rattle.memory.specs.declared.trie.Trie.{Trie, Trie', None', Some', out-Trie}
+use Rattle.memory.specs.declared.trie.Node.{Node, Node', out-Node}
 use Rattle.memory.specs.Keys.{cut, formed}
-use Rattle.memory.specs.Holding.{at, same_prefix}
+use Rattle.memory.specs.Holding.{at, same_prefix, Counted}
 use Rattle.memory.specs.Looks.{longest, down_from}
 use Rattle.memory.specs.Writes.{written}
-use Rattle.memory.specs.Tries.{half, at_bits, in_trie, look_in, Within, is_node, nodes, rules, neat, spares}
-use Rattle.memory.specs.DownFrom.{down_cong, down_none, down_shift}
+use Rattle.memory.specs.Tries.{child, Split, half, at_bits, in_trie, look_in, Within, is_node, nodes, rules, neat, spares}
+use Rattle.memory.specs.DownFrom.{or_assoc, down_cong, down_none, down_shift}
 use Rattle.memory.specs.Covering.{formed_parts, cut_formed}
+use Rattle.memory.proofs.Counting.{counted_none}
 use Rattle.memory.proofs.Halves.{rest_mod}
-use Rattle.memory.proofs.Levels.{behind_one, behind_zero}
+use Rattle.memory.proofs.Levels.{behind_one, behind_zero, boxed, shown}
 
 -- a neat tree has a rule below each node
 some_rule : (t : Trie) (h : ℕ) → neat t h ≡ true → is_node t ≡ true → 1 ≤ rules t
-some_rule Empty h e n = absurd (false≢true n)
-some_rule (Node' (Some x) p l q r) h e n = omega arith
-some_rule (Node' None p l q r) h e n =
+some_rule (Trie' None') h e n = absurd (false≢true n)
+some_rule (Trie' (Some' p (Node' (Some x) l r))) h e n = omega arith
+some_rule (Trie' (Some' p (Node' None l r))) h e n =
     let a = and_parts (is_node l || is_node r) _ e in
     let b = and_parts (ltb 0 h || not (is_node l || is_node r)) _ a.1 in
     let both = and_parts (neat l (h - 1)) (neat r (h - 1)) b.1 in
@@ -35,13 +37,13 @@ some_rule (Node' None p l q r) h e n =
     by f g false false ex ey o = absurd (false≢true o)
 
 leafy : (t : Trie) → is_node t ≡ false → (nodes t ≡ 0) × (rules t ≡ 0)
-leafy Empty e = (refl, refl)
-leafy (Node' s p l q r) e = absurd (false≢true (sym e))
+leafy (Trie' None') e = (refl, refl)
+leafy (Trie' (Some' p (Node' s l r))) e = absurd (false≢true (sym e))
 
 -- and so at most h + 1 nodes for each rule
 pub few_nodes : (t : Trie) (h : ℕ) → neat t h ≡ true → nodes t ≤ (h + 1) * rules t
-few_nodes Empty h e = omega arith
-few_nodes (Node' s p l q r) h e =
+few_nodes (Trie' None') h e = omega arith
+few_nodes (Trie' (Some' p (Node' s l r))) h e =
     let a = and_parts (is_some s || (is_node l || is_node r)) _ e in
     let b = and_parts (ltb 0 h || not (is_node l || is_node r)) _ a.1 in
     let both = and_parts (neat l (h - 1)) (neat r (h - 1)) b.1 in
@@ -82,31 +84,57 @@ few_nodes (Node' s p l q r) h e =
         omega (arith, f', g', k, d₁, d₂, d₃)
 
 -- the longest prefix is the first on the way up
-look_by : (s : Option Server) (p q : Box (Unit {0}) Global) (l r : Trie) (h v : ℕ) (b : Bool) → leb (half h) v ≡ b → 0 < h
+look_by : (s : Option Server) (p : Box (Unit {0}) Global) (l r : Trie) (h v : ℕ) (b : Bool) → leb (half h) v ≡ b → 0 < h
     → look_in r (h - 1) (v - half h) ≡ down_from (h - 1) (λ n. at_bits r (h - 1) n (v - half h))
     → look_in l (h - 1) v ≡ down_from (h - 1) (λ n. at_bits l (h - 1) n v)
-    → option_or (cond b (look_in r (h - 1) (v - half h)) (look_in l (h - 1) v)) s ≡ option_or (down_from (h - 1) (λ n. at_bits (Node' s p l q r) h (suc n) v)) s
-look_by s p q l r h v true e pos f g =
-    ap (λ o. option_or o s) (f ∙ sym (down_cong (h - 1) (λ n. at_bits (Node' s p l q r) h (suc n) v) (λ n. at_bits r (h - 1) n (v - half h))
-    (λ n a. let one : suc n - 1 ≡ n = omega arith in behind_one s p q l r h (suc n) v (omega arith) (leb-true (half h) v e) ∙ ap (λ m. at_bits r (h - 1) m (v - half h)) one)))
-look_by s p q l r h v false e pos f g =
-    ap (λ o. option_or o s) (g ∙ sym (down_cong (h - 1) (λ n. at_bits (Node' s p l q r) h (suc n) v) (λ n. at_bits l (h - 1) n v)
-    (λ n a. let one : suc n - 1 ≡ n = omega arith in behind_zero s p q l r h (suc n) v (omega arith) (leb-false (half h) v e) ∙ ap (λ m. at_bits l (h - 1) m v) one)))
+    → option_or (cond b (look_in r (h - 1) (v - half h)) (look_in l (h - 1) v)) s ≡ option_or (down_from (h - 1) (λ n. at_bits (Trie' (Some' p (Node' s l r))) h (suc n) v)) s
+look_by s p l r h v true e pos f g =
+    ap (λ o. option_or o s) (f ∙ sym (down_cong (h - 1) (λ n. at_bits (Trie' (Some' p (Node' s l r))) h (suc n) v) (λ n. at_bits r (h - 1) n (v - half h))
+    (λ n a. let one : suc n - 1 ≡ n = omega arith in behind_one s p l r h (suc n) v (omega arith) (leb-true (half h) v e) ∙ ap (λ m. at_bits r (h - 1) m (v - half h)) one)))
+look_by s p l r h v false e pos f g =
+    ap (λ o. option_or o s) (g ∙ sym (down_cong (h - 1) (λ n. at_bits (Trie' (Some' p (Node' s l r))) h (suc n) v) (λ n. at_bits l (h - 1) n v)
+    (λ n a. let one : suc n - 1 ≡ n = omega arith in behind_zero s p l r h (suc n) v (omega arith) (leb-false (half h) v e) ∙ ap (λ m. at_bits l (h - 1) m v) one)))
+
+-- one bit further down: what the node has goes before the best so far
+looked_node : (s : Option Server) (p : Box (Unit {0}) Global) (l r u : Trie) (h n v h' n' v' : ℕ) (best : Option Server) (bit : Bool) → Split h n v bit h' n' v' → n ≡ h → u ≡ child (Node' s l r) bit
+    → option_or (look_in u h' v') (option_or s best) ≡ option_or (look_in (Trie' (Some' p (Node' s l r))) h v) best
+looked_node s p l r u h n v h' n' v' best bit way whole eu = or_assoc (look_in u h' v') s best ∙ ap (λ o. option_or (option_or o s) best) (by bit way eu)
+  where
+    down : (o : Option Server) → o ≡ cond (eqb h 0) None o
+    down o = sym (cond-false (eqb h 0) None o (ne_eqb h 0 (λ e. omega (arith, way.some, whole))))
+
+    by : (bit : Bool) → Split h n v bit h' n' v' → u ≡ child (Node' s l r) bit → look_in u h' v' ≡ cond (eqb h 0) None (cond (leb (half h) v) (look_in r (h - 1) (v - half h)) (look_in l (h - 1) v))
+    by true way eu =
+        ap (λ t. look_in t h' v') eu ∙ ap (λ k. look_in r k v') way.height_is ∙ ap (look_in r (h - 1)) way.value_is
+        ∙ sym (cond-true (leb (half h) v) _ (look_in l (h - 1) v) (sym way.bit_is)) ∙ down _
+    by false way eu =
+        let rest : v' ≡ v = omega (arith, way.value_is) in
+        ap (λ t. look_in t h' v') eu ∙ ap (λ k. look_in l k v') way.height_is ∙ ap (look_in l (h - 1)) rest
+        ∙ sym (cond-false (leb (half h) v) (look_in r (h - 1) (v - half h)) _ (sym way.bit_is)) ∙ down _
+
+pub looked_below : (g : Trie) (b : Box Node Global) (h n v : ℕ) (best : Option Server) {u : Trie} {o : Option Server} {bit : Bool} {h' n' v' : ℕ} → (out-Trie g).0 ≡ Some b → Split h n v bit h' n' v' → n ≡ h
+    → u ≡ child b.value bit → o ≡ option_or (out-Node b.value).server best → option_or (look_in u h' v') o ≡ option_or (look_in g h v) best
+unfolding out-Node denote.Hole.Carrier.out
+looked_below g b h n v best {u} {o} {bit} {h'} {n'} {v'} is way whole eu eo =
+    ap (option_or (look_in u h' v')) eo ∙ by b.value eu ∙ ap (λ t. option_or (look_in t h v) best) (sym (shown g b is))
+  where
+    by : (m : Node) → u ≡ child m bit → option_or (look_in u h' v') (option_or (out-Node m).server best) ≡ option_or (look_in (boxed (with_value b m)) h v) best
+    by (Node' s l r) eu = looked_node s (record { ptr = b.ptr; alloc = b.alloc; value = tt }) l r u h n v h' n' v' best bit way whole eu
 
 pub look_down : (t : Trie) (h v : ℕ) → look_in t h v ≡ down_from h (λ n. at_bits t h n v)
 unfolding down_from
-look_down Empty h v = sym (down_none h (λ _. None) (λ _ _. refl))
-look_down (Node' s p l q r) h v = by h (look_down r (h - 1) (v - half h)) (look_down l (h - 1) v)
+look_down (Trie' None') h v = sym (down_none h (λ _. None) (λ _ _. refl))
+look_down (Trie' (Some' p (Node' s l r))) h v = by h (look_down r (h - 1) (v - half h)) (look_down l (h - 1) v)
   where
     by : (h : ℕ) → look_in r (h - 1) (v - half h) ≡ down_from (h - 1) (λ n. at_bits r (h - 1) n (v - half h)) → look_in l (h - 1) v ≡ down_from (h - 1) (λ n. at_bits l (h - 1) n v)
-        → look_in (Node' s p l q r) h v ≡ down_from h (λ n. at_bits (Node' s p l q r) h n v)
+        → look_in (Trie' (Some' p (Node' s l r))) h v ≡ down_from h (λ n. at_bits (Trie' (Some' p (Node' s l r))) h n v)
     by zero f g = refl
     by (suc h) f g =
         let one : suc h - 1 ≡ h = omega arith in
         cond_off (eqb (suc h) 0) (ne_eqb (suc h) 0 (λ e. omega arith))
-        ∙ look_by s p q l r (suc h) v (leb (half (suc h)) v) refl (omega arith) f g
-        ∙ ap (λ m. option_or (down_from m (λ n. at_bits (Node' s p l q r) (suc h) (suc n) v)) s) one
-        ∙ sym (down_shift h (λ n. at_bits (Node' s p l q r) (suc h) n v))
+        ∙ look_by s p l r (suc h) v (leb (half (suc h)) v) refl (omega arith) f g
+        ∙ ap (λ m. option_or (down_from m (λ n. at_bits (Trie' (Some' p (Node' s l r))) (suc h) (suc n) v)) s) one
+        ∙ sym (down_shift h (λ n. at_bits (Trie' (Some' p (Node' s l r))) (suc h) n v))
       where
         cond_off : (z : Bool) → z ≡ false
             → option_or (cond z None (cond (leb (half (suc h)) v) (look_in r (suc h - 1) (v - half (suc h))) (look_in l (suc h - 1) v))) s ≡ option_or (cond (leb (half (suc h)) v) (look_in r (suc h - 1) (v - half (suc h))) (look_in l (suc h - 1) v)) s
@@ -115,13 +143,13 @@ look_down (Node' s p l q r) h v = by h (look_down r (h - 1) (v - half h)) (look_
 
 -- the bits behind a prefix do not count
 pub cut_trie : (t : Trie) (h n v : ℕ) → n ≤ h → at_bits t h n (v - v % 2 ^ (h - n)) ≡ at_bits t h n v
-cut_trie Empty h n v le = refl
-cut_trie (Node' s p l q r) h n v le = by (cut_trie r (h - 1) (n - 1) (v - half h)) (cut_trie l (h - 1) (n - 1) v) (eqb n 0) refl (leb (half h) v) refl
+cut_trie (Trie' None') h n v le = refl
+cut_trie (Trie' (Some' p (Node' s l r))) h n v le = by (cut_trie r (h - 1) (n - 1) (v - half h)) (cut_trie l (h - 1) (n - 1) v) (eqb n 0) refl (leb (half h) v) refl
   where
     by : (n - 1 ≤ h - 1 → at_bits r (h - 1) (n - 1) ((v - half h) - (v - half h) % 2 ^ ((h - 1) - (n - 1))) ≡ at_bits r (h - 1) (n - 1) (v - half h))
         → (n - 1 ≤ h - 1 → at_bits l (h - 1) (n - 1) (v - v % 2 ^ ((h - 1) - (n - 1))) ≡ at_bits l (h - 1) (n - 1) v)
         → (z : Bool) → eqb n 0 ≡ z → (b : Bool) → leb (half h) v ≡ b
-        → at_bits (Node' s p l q r) h n (v - v % 2 ^ (h - n)) ≡ at_bits (Node' s p l q r) h n v
+        → at_bits (Trie' (Some' p (Node' s l r))) h n (v - v % 2 ^ (h - n)) ≡ at_bits (Trie' (Some' p (Node' s l r))) h n v
     by f g true ez b eb = cond-true (eqb n 0) s _ ez ∙ sym (cond-true (eqb n 0) s _ ez)
     by f g false ez true eb =
         let pos : 0 < n = grind (arith, nat_tests) in
@@ -131,17 +159,17 @@ cut_trie (Node' s p l q r) h n v le = by (cut_trie r (h - 1) (n - 1) (v - half h
         let low = mod-le (v - half h) (2 ^ (h - n)) in
         let above : half h ≤ v - v % 2 ^ (h - n) = omega (arith, same, low) in
         let rest : (v - v % 2 ^ (h - n)) - half h ≡ (v - half h) - (v - half h) % 2 ^ (h - n) = omega (arith, same, low) in
-        behind_one s p q l r h n (v - v % 2 ^ (h - n)) pos above
+        behind_one s p l r h n (v - v % 2 ^ (h - n)) pos above
         ∙ ap (at_bits r (h - 1) (n - 1)) rest
         ∙ ap (λ i. at_bits r (h - 1) (n - 1) ((v - half h) - (v - half h) % 2 ^ i)) (sym j)
-        ∙ f (omega arith) ∙ sym (behind_one s p q l r h n v pos high)
+        ∙ f (omega arith) ∙ sym (behind_one s p l r h n v pos high)
     by f g false ez false eb =
         let pos : 0 < n = grind (arith, nat_tests) in
         let low : v < half h = leb-false (half h) v eb in
         let j : (h - 1) - (n - 1) ≡ h - n = omega arith in
-        behind_zero s p q l r h n (v - v % 2 ^ (h - n)) pos (omega arith)
+        behind_zero s p l r h n (v - v % 2 ^ (h - n)) pos (omega arith)
         ∙ ap (λ i. at_bits l (h - 1) (n - 1) (v - v % 2 ^ i)) (sym j)
-        ∙ g (omega arith) ∙ sym (behind_zero s p q l r h n v pos low)
+        ∙ g (omega arith) ∙ sym (behind_zero s p l r h n v pos low)
 
 pub trie_longest : (t : Trie) (key : ℕ) → key < 2 ^ 32 → look_in t 32 key ≡ longest (in_trie t) key
 trie_longest t key small =
@@ -169,21 +197,31 @@ pub trie_at : (t : Trie) (p : Prefix) (o : Option Server) → formed p.value p.l
 trie_at t p o f e = cond-true (formed p.value p.length) (at_bits t 32 p.length p.value) None f ∙ sym e
 
 pub trie_none : (t : Trie) → is_node t ≡ false → (v l : ℕ) → in_trie t v l ≡ None
-trie_none Empty e v l = by (formed v l)
+trie_none (Trie' None') e v l = by (formed v l)
   where
     by : (b : Bool) → ◌≡◌ {A = Option Server} (cond b None None) None
     by true = refl
     by false = refl
-trie_none (Node' s p a q b) e v l = absurd (false≢true (sym e))
+trie_none (Trie' (Some' p (Node' s a b))) e v l = absurd (false≢true (sym e))
 
-pub record Bare (t : Trie) : Type 0 where
-  pub nodes_are : nodes t ≡ 0
-  pub rules_are : rules t ≡ 0
-  pub neat_is : (h : ℕ) → neat t h ≡ true
+-- an empty trie
+pub empty_neat : (t : Trie) (h : ℕ) → is_node t ≡ false → neat t h ≡ true
+empty_neat (Trie' None') h e = refl
+empty_neat (Trie' (Some' p (Node' s a b))) h e = absurd (false≢true (sym e))
 
-pub empty_is : (t : Trie) → is_node t ≡ false → Bare t
-empty_is Empty e = record { nodes_are = refl; rules_are = refl; neat_is = λ h. refl }
-empty_is (Node' s p a q b) e = absurd (false≢true (sym e))
+pub empty_nodes : (t : Trie) → is_node t ≡ false → nodes t ≡ 0
+empty_nodes (Trie' None') e = refl
+empty_nodes (Trie' (Some' p (Node' s a b))) e = absurd (false≢true (sym e))
+
+pub empty_rules : (t : Trie) → is_node t ≡ false → rules t ≡ 0
+empty_rules (Trie' None') e = refl
+empty_rules (Trie' (Some' p (Node' s a b))) e = absurd (false≢true (sym e))
+
+pub empty_counted : (t : Trie) → is_node t ≡ false → ∥ Counted (in_trie t) 0 ∥₁
+empty_counted t e = ∣ counted_none (in_trie t) (trie_none t e) ∣₁
+
+-- what holds of branches whose trie is empty
+pub ruleset empties = (empty_neat, empty_nodes, empty_rules, empty_counted, trie_none)
 
 -- there are nodes for a put
 pub nodes_left : (t c : Trie) (n v l : ℕ) → neat t 32 ≡ true → nodes t + spares c ≡ 8481 → rules t ≡ n → n ≤ 256 → formed v l ≡ true → l < spares c

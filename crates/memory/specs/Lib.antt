@@ -4,6 +4,7 @@ pub mod Looks
 pub mod Writes
 pub mod Rows
 pub mod Tries
+pub mod Lending
 pub mod RowLaws
 pub mod Covering
 pub mod DownFrom

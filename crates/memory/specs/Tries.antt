@@ -5,30 +5,37 @@ use Rattle.std.specs.Option.{option_or}
 use Rattle.rules.specs.declared.server.Server.{Server}
 use Rattle.memory.specs.Keys.{formed}
 use Rattle.memory.specs.Holding.{Held}
-use Rattle.memory.specs.declared.trie.Trie.{Trie}
-use Rattle.memory.specs.declared.trie.Trie.TheVariants.{Empty, Node'}
+use Rattle.memory.specs.declared.trie.Trie.{Trie, Trie', Held-Trie-0, None', Some'}
+use Rattle.memory.specs.declared.trie.Node.{Node, Node'}
 
 -- What the first of h bits stands for.
 abbrev pub half : ℕ → ℕ
 half h = 2 ^ (h - 1)
 
+-- What lies below a bit of a node, and the node with something else there.
+abbrev pub child : Node → Bool → Trie
+child (Node' s l r) b = cond b r l
+
+abbrev pub with_child : Node → Bool → Trie → Node
+with_child (Node' s l r) b t = cond b (Node' s l t) (Node' s t r)
+
 -- The server at the first n of the h bits of v.
 abbrev pub at_bits : Trie → ℕ → ℕ → ℕ → Option Server
-at_bits Empty h n v = None
-at_bits (Node' s p l q r) h n v = cond (n == 0) s (cond (nat_le (half h) v) (at_bits r (h - 1) (n - 1) (v - half h)) (at_bits l (h - 1) (n - 1) v))
+at_bits (Trie' None') h n v = None
+at_bits (Trie' (Some' p (Node' s l r))) h n v = cond (n == 0) s (cond (nat_le (half h) v) (at_bits r (h - 1) (n - 1) (v - half h)) (at_bits l (h - 1) (n - 1) v))
 
 -- The server at the longest prefix of the h bits of v.
 abbrev pub look_in : Trie → ℕ → ℕ → Option Server
-look_in Empty h v = None
-look_in (Node' s p l q r) h v = option_or (cond (h == 0) None (cond (nat_le (half h) v) (look_in r (h - 1) (v - half h)) (look_in l (h - 1) v))) s
+look_in (Trie' None') h v = None
+look_in (Trie' (Some' p (Node' s l r))) h v = option_or (cond (h == 0) None (cond (nat_le (half h) v) (look_in r (h - 1) (v - half h)) (look_in l (h - 1) v))) s
 
 -- A prefix of n of h bits: the other bits are 0.
 abbrev pub Within : ℕ → ℕ → ℕ → Type 0
 Within h n v = (n ≤ h) × (v < 2 ^ h) × (v % 2 ^ (h - n) ≡ 0)
 
 abbrev pub is_node : Trie → Bool
-is_node Empty = false
-is_node (Node' s p l q r) = true
+is_node (Trie' None') = false
+is_node (Trie' (Some' p (Node' s l r))) = true
 
 -- The first bit of n of the h bits of v, and what is behind it: n' of the h' bits of v'.
 pub record Split (h n v : ℕ) (bit : Bool) (h' n' v' : ℕ) : Type 0 where
@@ -40,31 +47,31 @@ pub record Split (h n v : ℕ) (bit : Bool) (h' n' v' : ℕ) : Type 0 where
 
 -- A node that holds nothing, over two empty tries.
 abbrev pub bare : Trie → Bool
-bare Empty = false
-bare (Node' s p l q r) = not (is_some s) && (not (is_node l) && not (is_node r))
+bare (Trie' None') = false
+bare (Trie' (Some' p (Node' s l r))) = not (is_some s) && (not (is_node l) && not (is_node r))
 
 abbrev pub nodes : Trie → ℕ
-nodes Empty = 0
-nodes (Node' s p l q r) = 1 + (nodes l + nodes r)
+nodes (Trie' None') = 0
+nodes (Trie' (Some' p (Node' s l r))) = 1 + (nodes l + nodes r)
 
 abbrev pub rules : Trie → ℕ
-rules Empty = 0
-rules (Node' s p l q r) = cond (is_some s) 1 0 + (rules l + rules r)
+rules (Trie' None') = 0
+rules (Trie' (Some' p (Node' s l r))) = cond (is_some s) 1 0 + (rules l + rules r)
 
 -- Each node holds a server or stands above another node, and none lies below the height.
 abbrev pub neat : Trie → ℕ → Bool
-neat Empty h = true
-neat (Node' s p l q r) h = (is_some s || (is_node l || is_node r)) && ((nat_lt 0 h || not (is_node l || is_node r)) && (neat l (h - 1) && neat r (h - 1)))
+neat (Trie' None') h = true
+neat (Trie' (Some' p (Node' s l r))) h = (is_some s || (is_node l || is_node r)) && ((nat_lt 0 h || not (is_node l || is_node r)) && (neat l (h - 1) && neat r (h - 1)))
 
 -- The same, but for the first node, which may be bare.
 abbrev pub ready : Trie → ℕ → Bool
-ready Empty h = true
-ready (Node' s p l q r) h = (nat_lt 0 h || not (is_node l || is_node r)) && (neat l (h - 1) && neat r (h - 1))
+ready (Trie' None') h = true
+ready (Trie' (Some' p (Node' s l r))) h = (nat_lt 0 h || not (is_node l || is_node r)) && (neat l (h - 1) && neat r (h - 1))
 
 -- How many nodes a chain has: spare nodes hang below one another on the side of the bit 0.
 abbrev pub spares : Trie → ℕ
-spares Empty = 0
-spares (Node' s p l q r) = suc (spares l)
+spares (Trie' None') = 0
+spares (Trie' (Some' p (Node' s l r))) = suc (spares l)
 
 -- An empty trie t became a node off the chain c, or a node is as it was.
 pub record Opened (t t' c c' : Trie) : Type 0 where

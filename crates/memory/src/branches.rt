@@ -35,12 +35,13 @@ pub struct Branches {
 
 impl Branches {
     // Branches with no rule and no capacity.
+    #[tactic(auto, using(crate::proofs::TrieLaws::empties))]
     pub fn new(heap: Global) -> Result<Branches, AllocError>
         ensures { IfOk result (λ b. Fresh (in_trie b.root) b.count b.capacity) }
     {
         let spare = spare_nodes(heap, 8481)?;
         Ok(Branches {
-            root: Trie::Empty,
+            root: Trie::new(),
             spare,
             count: 0,
             capacity: 0,
@@ -112,6 +113,7 @@ impl Fitting for Branches {
         CEILING
     }
 
+    #[tactic(auto, using(crate::proofs::TrieLaws::empties))]
     fn fit(&mut self, capacity: u32) -> Result<(), Refusal> {
         if capacity > CEILING {
             return Err(Refusal::AboveCeiling);
@@ -130,11 +132,11 @@ mod tests {
 
     // The length of a chain of spare nodes.
     fn chain_length(chain: &Trie) -> u32 {
-        let mut node = chain;
+        let mut trie = chain;
         let mut length = 0u32;
-        while let Trie::Node(_, next, _) = node {
+        while let Some(node) = &trie.0 {
             length = length.saturating_add(1);
-            node = next;
+            trie = &node.zero;
         }
         length
     }
@@ -162,7 +164,7 @@ mod tests {
                 assert_eq!(rt; memory.remove(prefix), Ok(true));
             }
         }
-        assert!(rt; matches!(&memory.root, Trie::Empty));
+        assert!(rt; memory.root.0.is_none());
         assert_eq!(rt; chain_length(&memory.spare), 8481);
         Ok(())
     }

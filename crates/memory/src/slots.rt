@@ -46,7 +46,7 @@ impl Row {
     fn covers(&self, key: u32) -> bool
         ensures { result ≡ matches self.now key }
     {
-        self.rule.prefix.value <= key && key <= self.last
+        (self.rule.prefix.value..=self.last).contains(&key)
     }
 }
 

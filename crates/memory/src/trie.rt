@@ -1,30 +1,58 @@
 // A binary trie over the bits of a key, the highest first, and a chain of spare nodes.
 ghost use Rattle.std.specs.Prelude.{◌≡◌, ◌+◌, ◌-◌, ◌*◌, ◌<◌, ◌≤◌, true, false, not, IfOk, Some, None};
-ghost use Rattle.memory.specs.Tries.{at_bits, look_in, spares, nodes, is_node, bare, neat, ready, Opened, Inserted, Pruned, Erased};
+ghost use Rattle.std.specs.Borrow.{sem};
+ghost use Rattle.memory.specs.Lending.{LendsChild};
+ghost use Rattle.memory.specs.Tries.{child, at_bits, look_in, spares, nodes, is_node, bare, neat, ready, Opened, Inserted, Pruned, Erased};
 
 use crate::path::Path;
 use rules::server::Server;
 use std::alloc::{AllocError, Global};
 use std::mem::swap;
 
+// A trie is empty or has a first node.
+#[cycle(trie)]
+pub(crate) struct Trie(pub(crate) Option<Box<Node>>);
+
 // A node has the server that is held at its prefix, if one is, and what lies below the bit 0 and below the bit 1.
-pub enum Trie {
-    Empty,
-    Node(Option<Server>, Box<Trie>, Box<Trie>),
+#[cycle(trie)]
+#[derive(Drop)]
+pub(crate) struct Node {
+    server: Option<Server>,
+    pub(crate) zero: Trie,
+    pub(crate) one: Trie,
 }
 
 // A chain of spare nodes is long, so that it is let go by a loop along the bit 0.
 impl Drop for Trie {
     fn drop(mut self) {
         loop {
-            match self {
-                Trie::Empty => return,
-                Trie::Node(_, zero, one) => {
-                    drop(Box::into_inner(one));
-                    self = Box::into_inner(zero);
+            let Trie(first) = self;
+            match first {
+                None => return,
+                Some(node) => {
+                    let Node { zero, one, .. } = Box::into_inner(node);
+                    drop(one);
+                    self = zero;
                 }
             }
         }
+    }
+}
+
+impl Node {
+    // What lies below a bit.
+    fn child(&self, bit: bool) -> &Trie
+        ensures { result.now ≡ child self.now bit }
+    {
+        if bit { &self.one } else { &self.zero }
+    }
+
+    // The same, to write to.
+    fn child_mut(&mut self, bit: bool) -> &mut Trie
+        ensures* writes_back { sem 𝓛 (LendsChild self.entry bit result) }
+        ensures value { result.now ≡ child self.old bit }
+    {
+        if bit { &mut self.one } else { &mut self.zero }
     }
 }
 
@@ -32,27 +60,34 @@ impl Drop for Trie {
 pub(crate) fn spare_nodes(heap: Global, count: usize) -> Result<Trie, AllocError>
     ensures { IfOk result (λ t. spares t ≡ count) }
 {
-    let mut chain = Trie::Empty;
+    let mut chain = Trie::new();
     for made in 0..count {
-        let next = Box::new(heap, chain)?;
-        let other = Box::new(heap, Trie::Empty)?;
-        chain = Trie::Node(None, next, other);
+        let node = Node {
+            server: None,
+            zero: chain,
+            one: Trie::new(),
+        };
+        chain = Trie(Some(Box::new(heap, node)?));
     }
     Ok(chain)
 }
 
 impl Trie {
+    // An empty trie.
+    pub(crate) fn new() -> Trie
+        ensures { is_node result ≡ false }
+    {
+        Trie(None)
+    }
+
     // The server at the end of a path.
     pub(crate) fn held(&self, path: Path) -> Option<Server>
         ensures { result ≡ at_bits self.now path.height path.length path.value }
     {
-        match self {
-            Trie::Empty => None,
-            Trie::Node(server, zero, one) => match path.split_first() {
-                None => *server,
-                Some((false, rest)) => zero.held(rest),
-                Some((true, rest)) => one.held(rest),
-            },
+        let node = self.0.as_ref()?;
+        match path.split_first() {
+            None => node.server,
+            Some((bit, rest)) => node.child(bit).held(rest),
         }
     }
 
@@ -60,16 +95,16 @@ impl Trie {
     pub(crate) fn look(&self, key: u32) -> Option<Server>
         ensures { result ≡ look_in self.now 32 key }
     {
-        let mut node = self;
+        let mut trie = self;
         let mut best = None;
         let mut path = Path::whole(key);
-        while let Trie::Node(server, zero, one) = node {
-            best = server.or(best);
+        while let Some(node) = &trie.0 {
+            best = node.server.or(best);
             let Some((bit, rest)) = path.split_first() else {
                 return best;
             };
             path = rest;
-            node = if bit { one } else { zero };
+            trie = node.child(bit);
         }
         best
     }
@@ -82,10 +117,10 @@ impl Trie {
         ensures chain { spares chain.new + 1 ≡ spares chain.old }
     {
         swap(self, chain);
-        if let Trie::Node(server, next, other) = self {
-            *server = None;
-            **other = Trie::Empty;
-            swap(&mut **next, chain);
+        if let Some(node) = &mut self.0 {
+            node.server = None;
+            node.one = Trie::new();
+            swap(&mut node.zero, chain);
         }
     }
 
@@ -95,8 +130,8 @@ impl Trie {
         ensures empty { is_node self.new ≡ false }
         ensures chain { spares chain.new ≡ spares chain.old + 1 }
     {
-        if let Trie::Node(_, next, _) = self {
-            swap(&mut **next, chain);
+        if let Some(node) = &mut self.0 {
+            swap(&mut node.zero, chain);
             swap(self, chain);
         }
     }
@@ -104,16 +139,15 @@ impl Trie {
     fn is_empty(&self) -> bool
         ensures { result ≡ not (is_node self.now) }
     {
-        matches!(self, Trie::Empty)
+        self.0.is_none()
     }
 
     fn is_bare(&self) -> bool
         ensures { result ≡ bare self.now }
     {
-        match self {
-            Trie::Empty => false,
-            Trie::Node(held, zero, one) => held.is_none() && zero.is_empty() && one.is_empty(),
-        }
+        self.0.as_ref().is_some_and(|node| node.server.is_none()
+            && node.zero.is_empty()
+            && node.one.is_empty())
     }
 
     // An empty trie becomes a node, any other is one.
@@ -141,11 +175,10 @@ impl Trie {
         ensures { Inserted self.old self.new chain.old chain.new path.height path.length path.value server }
     {
         self.open(chain);
-        if let Trie::Node(held, zero, one) = self {
+        if let Some(node) = &mut self.0 {
             match path.split_first() {
-                None => *held = Some(server),
-                Some((false, rest)) => zero.insert(chain, rest, server),
-                Some((true, rest)) => one.insert(chain, rest, server),
+                None => node.server = Some(server),
+                Some((bit, rest)) => node.child_mut(bit).insert(chain, rest, server),
             }
         }
     }
@@ -155,11 +188,10 @@ impl Trie {
     fn clear(&mut self, chain: &mut Trie, path: Path)
         ensures { Erased self.old self.new chain.old chain.new path.height path.length path.value ready }
     {
-        if let Trie::Node(held, zero, one) = self {
+        if let Some(node) = &mut self.0 {
             match path.split_first() {
-                None => *held = None,
-                Some((false, rest)) => zero.erase(chain, rest),
-                Some((true, rest)) => one.erase(chain, rest),
+                None => node.server = None,
+                Some((bit, rest)) => node.child_mut(bit).erase(chain, rest),
             }
         }
     }
@@ -178,10 +210,10 @@ impl Trie {
         ensures empty { is_node self.new ≡ false }
         ensures chain { spares chain.new ≡ spares chain.old + nodes self.old }
     {
-        if let Trie::Node(server, zero, one) = self {
-            zero.release(chain);
-            one.release(chain);
-            *server = None;
+        if let Some(node) = &mut self.0 {
+            node.zero.release(chain);
+            node.one.release(chain);
+            node.server = None;
             self.give_node(chain);
         }
     }
