@@ -22,47 +22,39 @@ shift_zero : (v w n k : ℕ) → 0 < n → 0 < k → (eqb v w && eqb (n - 1) (k 
 shift_zero v w n k r s = grind (arith, nat_tests)
 
 -- what is held behind the first bit
-pub behind_one : (s : Option Server) (p : Box (Unit {0}) Global) (l r : Trie) (h n v : ℕ) → 0 < n → half h ≤ v → at_bits (node s p l r) h n v ≡ at_bits r (h - 1) (n - 1) (v - half h)
-behind_one s p l r h n v pos up =
-    cond-false (eqb n 0) s _ (ne_eqb n 0 (λ e. omega arith)) ∙ cond-true (leb (half h) v) (at_bits r (h - 1) (n - 1) (v - half h)) (at_bits l (h - 1) (n - 1) v) (le-leb (half h) v up)
-
-pub behind_zero : (s : Option Server) (p : Box (Unit {0}) Global) (l r : Trie) (h n v : ℕ) → 0 < n → v < half h → at_bits (node s p l r) h n v ≡ at_bits l (h - 1) (n - 1) v
-behind_zero s p l r h n v pos low =
-    cond-false (eqb n 0) s _ (ne_eqb n 0 (λ e. omega arith)) ∙ cond-false (leb (half h) v) (at_bits r (h - 1) (n - 1) (v - half h)) (at_bits l (h - 1) (n - 1) v) (lt-leb (half h) v low)
+pub behind_bit : (s : Option Server) (p : Box (Unit {0}) Global) (l r : Trie) (h n v : ℕ) (bit : Bool) → 0 < n → bit ≡ leb (half h) v → at_bits (node s p l r) h n v ≡ at_bits (cond bit r l) (h - 1) (n - 1) (cond bit (v - half h) v)
+behind_bit s p l r h n v true pos is =
+    cond-false (eqb n 0) s _ (ne_eqb n 0 (λ e. omega arith)) ∙ cond-true (leb (half h) v) (at_bits r (h - 1) (n - 1) (v - half h)) (at_bits l (h - 1) (n - 1) v) (sym is)
+behind_bit s p l r h n v false pos is =
+    cond-false (eqb n 0) s _ (ne_eqb n 0 (λ e. omega arith)) ∙ cond-false (leb (half h) v) (at_bits r (h - 1) (n - 1) (v - half h)) (at_bits l (h - 1) (n - 1) v) (sym is)
 
 module _ (s o : Option Server) (p : Box (Unit {0}) Global) (l r : Trie) (h n v : ℕ) where
-  level_one : (r' : Trie) → 0 < n → half h ≤ v
-      → ((k w : ℕ) → Within (h - 1) k w → at_bits r' (h - 1) k w ≡ cond (eqb (v - half h) w && eqb (n - 1) k) o (at_bits r (h - 1) k w))
-      → (k w : ℕ) → Within h k w → at_bits (node s p l r') h k w ≡ cond (eqb v w && eqb n k) o (at_bits (node s p l r) h k w)
-  level_one r' pos up ih k w in_h = by (eqb k 0) (leb (half h) w) refl refl
+  -- a change below the first bit
+  level_below : (t : Trie) (bit : Bool) → 0 < n → bit ≡ leb (half h) v
+      → ((k w : ℕ) → Within (h - 1) k w → at_bits t (h - 1) k w ≡ cond (eqb (cond bit (v - half h) v) w && eqb (n - 1) k) o (at_bits (cond bit r l) (h - 1) k w))
+      → (k w : ℕ) → Within h k w → at_bits (node s p (cond bit l t) (cond bit t r)) h k w ≡ cond (eqb v w && eqb n k) o (at_bits (node s p l r) h k w)
+  level_below t bit pos is ih k w in_h = by bit is ih (eqb k 0) (leb (half h) w) refl refl
     where
-      by : (z b : Bool) → eqb k 0 ≡ z → leb (half h) w ≡ b
-          → cond z s (cond b (at_bits r' (h - 1) (k - 1) (w - half h)) (at_bits l (h - 1) (k - 1) w))
+      by : (bit : Bool) → bit ≡ leb (half h) v
+          → ((k w : ℕ) → Within (h - 1) k w → at_bits t (h - 1) k w ≡ cond (eqb (cond bit (v - half h) v) w && eqb (n - 1) k) o (at_bits (cond bit r l) (h - 1) k w))
+          → (z b : Bool) → eqb k 0 ≡ z → leb (half h) w ≡ b
+          → cond z s (cond b (at_bits (cond bit t r) (h - 1) (k - 1) (w - half h)) (at_bits (cond bit l t) (h - 1) (k - 1) w))
           ≡ cond (eqb v w && eqb n k) o (cond z s (cond b (at_bits r (h - 1) (k - 1) (w - half h)) (at_bits l (h - 1) (k - 1) w)))
-      by true b ez eb = sym (cond-false (eqb v w && eqb n k) o s (and_right (eqb v w) (eqb n k) (ne_eqb n k (λ e. omega (arith, eqb-true k 0 ez)))))
-      by false false ez eb = sym (cond-false (eqb v w && eqb n k) o (at_bits l (h - 1) (k - 1) w) (and_left (eqb v w) (eqb n k) (ne_eqb v w (λ e. omega (arith, leb-false (half h) w eb)))))
-      by false true ez eb =
+      by bit is ih true b ez eb = sym (cond-false (eqb v w && eqb n k) o s (and_right (eqb v w) (eqb n k) (ne_eqb n k (λ e. omega (arith, eqb-true k 0 ez)))))
+      by true is ih false false ez eb = sym (cond-false (eqb v w && eqb n k) o (at_bits l (h - 1) (k - 1) w) (and_left (eqb v w) (eqb n k) (ne_eqb v w (λ e. omega (arith, leb-false (half h) w eb, leb-true (half h) v (sym is))))))
+      by false is ih false true ez eb = sym (cond-false (eqb v w && eqb n k) o (at_bits r (h - 1) (k - 1) (w - half h)) (and_left (eqb v w) (eqb n k) (ne_eqb v w (λ e. omega (arith, leb-true (half h) w eb, leb-false (half h) v (sym is))))))
+      by true is ih false true ez eb =
           let high : half h ≤ w = leb-true (half h) w eb in
           let more : 0 < k = omega (arith, eqb-false k 0 ez) in
           ih (k - 1) (w - half h) (within_one h k w in_h more high)
-          ∙ ap (λ t. cond t o (at_bits r (h - 1) (k - 1) (w - half h))) (shift_one (half h) v w n k up high pos more)
-
-  level_zero : (l' : Trie) → 0 < n → v < half h
-      → ((k w : ℕ) → Within (h - 1) k w → at_bits l' (h - 1) k w ≡ cond (eqb v w && eqb (n - 1) k) o (at_bits l (h - 1) k w))
-      → (k w : ℕ) → Within h k w → at_bits (node s p l' r) h k w ≡ cond (eqb v w && eqb n k) o (at_bits (node s p l r) h k w)
-  level_zero l' pos low ih k w in_h = by (eqb k 0) (leb (half h) w) refl refl
-    where
-      by : (z b : Bool) → eqb k 0 ≡ z → leb (half h) w ≡ b
-          → cond z s (cond b (at_bits r (h - 1) (k - 1) (w - half h)) (at_bits l' (h - 1) (k - 1) w))
-          ≡ cond (eqb v w && eqb n k) o (cond z s (cond b (at_bits r (h - 1) (k - 1) (w - half h)) (at_bits l (h - 1) (k - 1) w)))
-      by true b ez eb = sym (cond-false (eqb v w && eqb n k) o s (and_right (eqb v w) (eqb n k) (ne_eqb n k (λ e. omega (arith, eqb-true k 0 ez)))))
-      by false true ez eb = sym (cond-false (eqb v w && eqb n k) o (at_bits r (h - 1) (k - 1) (w - half h)) (and_left (eqb v w) (eqb n k) (ne_eqb v w (λ e. omega (arith, leb-true (half h) w eb)))))
-      by false false ez eb =
+          ∙ ap (λ t. cond t o (at_bits r (h - 1) (k - 1) (w - half h))) (shift_one (half h) v w n k (leb-true (half h) v (sym is)) high pos more)
+      by false is ih false false ez eb =
           let under : w < half h = leb-false (half h) w eb in
           let more : 0 < k = omega (arith, eqb-false k 0 ez) in
           ih (k - 1) w (within_zero h k w in_h more under)
           ∙ ap (λ t. cond t o (at_bits l (h - 1) (k - 1) w)) (shift_zero v w n k pos more)
 
+  -- a change at the end of a path
   level_here : n ≡ 0 → Within h n v
       → (k w : ℕ) → Within h k w → at_bits (node o p l r) h k w ≡ cond (eqb v w && eqb n k) o (at_bits (node s p l r) h k w)
   level_here none in_v k w in_h = by (eqb k 0) refl
@@ -80,6 +72,19 @@ module _ (s o : Option Server) (p : Box (Unit {0}) Global) (l r : Trie) (h n v :
 -- a fact of what is behind the first bit
 pub behind : (P : ℕ → ℕ → ℕ → Type 0) {h h' n n' v v' : ℕ} → h' ≡ h → n' ≡ n → v' ≡ v → P h' n' v' → P h n v
 behind P {h} {h'} {n} {n'} {v} {v'} eh en ev p = subst (λ y. P y n v) eh (subst (λ y. P h' y v) en (subst (P h' n') ev p))
+
+-- one of two tries changes place with another
+moved : (f : Trie → ℕ) (bit : Bool) (l r u : Trie) → (f (cond bit l u) + f (cond bit u r)) + f (cond bit r l) ≡ (f l + f r) + f u
+moved f true l r u = omega arith
+moved f false l r u = omega arith
+
+both : (P : Trie → Type 0) (bit : Bool) (l r u : Trie) → P l → P r → (P (cond bit r l) → P u) → P (cond bit l u) × P (cond bit u r)
+both P true l r u pl pr pu = (pl, pu pr)
+both P false l r u pl pr pu = (pu pl, pr)
+
+some_below : (bit : Bool) (l r u : Trie) → is_node u ≡ true → (is_node (cond bit l u) || is_node (cond bit u r)) ≡ true
+some_below true l r u e = or_right (is_node l) (is_node u) e
+some_below false l r u e = or_left (is_node u) (is_node r) e
 
 -- how neat a node is
 neat_from : (s : Option Server) (p : Box (Unit {0}) Global) (l r : Trie) (h : ℕ) → (is_some s || (is_node l || is_node r)) ≡ true → 0 < h → neat l (h - 1) ≡ true → neat r (h - 1) ≡ true → neat (node s p l r) h ≡ true
@@ -121,36 +126,20 @@ module _ {t g c c₁ : Trie} {s : Option Server} {p : Box (Unit {0}) Global} {l 
   pub inserted_here : (o : Option Server) → o ≡ Some x → n ≡ 0 → Inserted t (node o p l r) c c₁ h n v x
   inserted_here o e none = subst (λ y. Inserted t (node y p l r) c c₁ h n v x) (sym e) (here none)
 
-  pub inserted_one : {u r' c₂ : Trie} {h' n' v' : ℕ} → Split h n v true h' n' v' → u ≡ r → Inserted u r' c₁ c₂ h' n' v' x → Inserted t (node s p l r') c c₂ h n v x
-  inserted_one {u} {r'} {c₂} {h'} {n'} {v'} way eu below =
+  inserted_behind : {u u' c₂ : Trie} {bit : Bool} {h' n' v' : ℕ} → Split h n v bit h' n' v' → u ≡ cond bit r l → Inserted u u' c₁ c₂ h' n' v' x → Inserted t (node s p (cond bit l u') (cond bit u' r)) c c₂ h n v x
+  inserted_behind {u} {u'} {c₂} {bit} {h'} {n'} {v'} way eu below =
       let sp = subst (λ y. Opened t y c c₁) is first in
-      let ih = behind (λ y₁ y₂ y₃. Inserted r r' c₁ c₂ y₁ y₂ y₃ x) way.height_is way.length_is way.value_is (subst (λ y. Inserted y r' c₁ c₂ h' n' v' x) eu below) in
-      let high = leb-true (half h) v (sym way.bit_is) in
-      let at = sym (sp.held h n v) ∙ behind_one s p l r h n v way.some high in
+      let ih = behind (λ y₁ y₂ y₃. Inserted (cond bit r l) u' c₁ c₂ y₁ y₂ y₃ x) way.height_is way.length_is way.value_is (subst (λ y. Inserted y u' c₁ c₂ h' n' v' x) eu below) in
+      let at = sym (sp.held h n v) ∙ behind_bit s p l r h n v bit way.some way.bit_is in
       record {
-        held = λ k w in_h. level_one s (Some x) p l r h n v r' way.some high ih.held k w in_h ∙ ap (λ o. cond (eqb v w && eqb n k) (Some x) o) (sp.held h k w);
-        nodes_kept = omega (arith, ih.nodes_kept, sp.nodes_kept);
-        rules_are = omega (arith, ih.rules_are, sp.rules_kept, ap {B = ℕ} (λ o. cond (is_some o) 0 1) at);
+        held = λ k w in_h. level_below s (Some x) p l r h n v u' bit way.some way.bit_is ih.held k w in_h ∙ ap (λ o. cond (eqb v w && eqb n k) (Some x) o) (sp.held h k w);
+        nodes_kept = omega (arith, ih.nodes_kept, sp.nodes_kept, moved nodes bit l r u');
+        rules_are = omega (arith, ih.rules_are, sp.rules_kept, moved rules bit l r u', ap {B = ℕ} (λ o. cond (is_some o) 0 1) at);
         node = refl;
         neat_kept = λ e.
             let parts = ready_parts s p l r h (sp.ready_now h e) in
-            neat_from s p l r' h (or_right (is_some s) _ (or_right (is_node l) (is_node r') ih.node)) (omega (arith, in_v.0, way.some)) parts.0 (ih.neat_kept parts.1);
-      }
-
-  pub inserted_zero : {u l' c₂ : Trie} {h' n' v' : ℕ} → Split h n v false h' n' v' → u ≡ l → Inserted u l' c₁ c₂ h' n' v' x → Inserted t (node s p l' r) c c₂ h n v x
-  inserted_zero {u} {l'} {c₂} {h'} {n'} {v'} way eu below =
-      let sp = subst (λ y. Opened t y c c₁) is first in
-      let ih = behind (λ y₁ y₂ y₃. Inserted l l' c₁ c₂ y₁ y₂ y₃ x) way.height_is way.length_is (omega (arith, way.value_is)) (subst (λ y. Inserted y l' c₁ c₂ h' n' v' x) eu below) in
-      let low = leb-false (half h) v (sym way.bit_is) in
-      let at = sym (sp.held h n v) ∙ behind_zero s p l r h n v way.some low in
-      record {
-        held = λ k w in_h. level_zero s (Some x) p l r h n v l' way.some low ih.held k w in_h ∙ ap (λ o. cond (eqb v w && eqb n k) (Some x) o) (sp.held h k w);
-        nodes_kept = omega (arith, ih.nodes_kept, sp.nodes_kept);
-        rules_are = omega (arith, ih.rules_are, sp.rules_kept, ap {B = ℕ} (λ o. cond (is_some o) 0 1) at);
-        node = refl;
-        neat_kept = λ e.
-            let parts = ready_parts s p l r h (sp.ready_now h e) in
-            neat_from s p l' r h (or_right (is_some s) _ (or_left (is_node l') (is_node r) ih.node)) (omega (arith, in_v.0, way.some)) (ih.neat_kept parts.0) parts.1;
+            let sides = both (λ y. neat y (h - 1) ≡ true) bit l r u' parts.0 parts.1 ih.neat_kept in
+            neat_from s p _ _ h (or_right (is_some s) _ (some_below bit l r u' ih.node)) (omega (arith, in_v.0, way.some)) sides.0 sides.1;
       }
 
 -- the trie of a node in a box
@@ -166,22 +155,6 @@ unfolding out-Trie denote.Hole.Carrier.out
 shown (Trie' None') b e = absurd (none-some b e)
 shown (Trie' (Some' p m)) b e = ap (λ x. Trie' (Some' (record { ptr = x.ptr; alloc = x.alloc; value = tt }) x.value)) (same_Some _ b e)
 
--- the same of a node in a box, by its bits
-module _ {t g c c₁ : Trie} (b : Box Node Global) (h n v : ℕ) (x : Server) (first : Opened t g c c₁) (is : (out-Trie g).0 ≡ Some b) (in_v : Within h n v) where
-  pub inserted_end : (m : Node) → m ≡ b.value → n ≡ 0 → Inserted t (roll-Trie (record { 0 = Some (with_value b (roll-Node (record { server = Some x; zero = (out-Node m).zero; one = (out-Node m).one }))) })) c c₁ h n v x
-  unfolding out-Node roll-Node denote.Hole.Carrier.out denote.Hole.Carrier.roll
-  inserted_end (Node' s l r) em none =
-      subst (λ y. Inserted t y c c₁ h n v x) (rolled (with_value b (Node' (Some x) l r)))
-      (inserted_here h n v x first (shown g b is ∙ ap (λ y. boxed (with_value b y)) (sym em)) in_v (Some x) refl none)
-
-  pub inserted_below : {u u' c₂ : Trie} {bit : Bool} {h' n' v' : ℕ} (m : Node) → m ≡ b.value → Split h n v bit h' n' v' → u ≡ child m bit → Inserted u u' c₁ c₂ h' n' v' x → Inserted t (roll-Trie (record { 0 = Some (with_value b (with_child m bit u')) })) c c₂ h n v x
-  inserted_below {u} {u'} {c₂} {bit} {h'} {n'} {v'} (Node' s l r) em way eu below =
-      by bit (shown g b is ∙ ap (λ y. boxed (with_value b y)) (sym em)) way eu
-    where
-      by : (bit : Bool) → g ≡ boxed (with_value b (Node' s l r)) → Split h n v bit h' n' v' → u ≡ child (Node' s l r) bit → Inserted t (roll-Trie (record { 0 = Some (with_value b (with_child (Node' s l r) bit u')) })) c c₂ h n v x
-      by true is_node way eu = subst (λ y. Inserted t y c c₂ h n v x) (rolled (with_value b (Node' s l u'))) (inserted_one h n v x first is_node in_v way eu below)
-      by false is_node way eu = subst (λ y. Inserted t y c c₂ h n v x) (rolled (with_value b (Node' s u' r))) (inserted_zero h n v x first is_node in_v way eu below)
-
 module _ {t c : Trie} {s : Option Server} {p : Box (Unit {0}) Global} {l r : Trie} (h n v : ℕ) (is : t ≡ node s p l r) (in_v : Within h n v) where
   gone : n ≡ 0 → Erased t (node None p l r) c c h n v ready
   gone none =
@@ -196,33 +169,32 @@ module _ {t c : Trie} {s : Option Server} {p : Box (Unit {0}) Global} {l r : Tri
   pub erased_here : (o : Option Server) → o ≡ None → n ≡ 0 → Erased t (node o p l r) c c h n v ready
   erased_here o e none = subst (λ y. Erased t (node y p l r) c c h n v ready) (sym e) (gone none)
 
-  pub erased_one : {u r' c₂ : Trie} {h' n' v' : ℕ} → Split h n v true h' n' v' → u ≡ r → Erased u r' c c₂ h' n' v' neat → Erased t (node s p l r') c c₂ h n v ready
-  erased_one {u} {r'} {c₂} {h'} {n'} {v'} way eu below =
-      let ih = behind (λ y₁ y₂ y₃. Erased r r' c c₂ y₁ y₂ y₃ neat) way.height_is way.length_is way.value_is (subst (λ y. Erased y r' c c₂ h' n' v' neat) eu below) in
-      let high = leb-true (half h) v (sym way.bit_is) in
-      let at = ap (λ y. at_bits y h n v) is ∙ behind_one s p l r h n v way.some high in
+  erased_behind : {u u' c₂ : Trie} {bit : Bool} {h' n' v' : ℕ} → Split h n v bit h' n' v' → u ≡ cond bit r l → Erased u u' c c₂ h' n' v' neat → Erased t (node s p (cond bit l u') (cond bit u' r)) c c₂ h n v ready
+  erased_behind {u} {u'} {c₂} {bit} {h'} {n'} {v'} way eu below =
+      let ih = behind (λ y₁ y₂ y₃. Erased (cond bit r l) u' c c₂ y₁ y₂ y₃ neat) way.height_is way.length_is way.value_is (subst (λ y. Erased y u' c c₂ h' n' v' neat) eu below) in
+      let at = ap (λ y. at_bits y h n v) is ∙ behind_bit s p l r h n v bit way.some way.bit_is in
       record {
-        held = λ k w in_h. level_one s None p l r h n v r' way.some high ih.held k w in_h ∙ ap (λ y. cond (eqb v w && eqb n k) None (at_bits y h k w)) (sym is);
-        nodes_kept = omega (arith, ih.nodes_kept, ap nodes is);
-        rules_are = omega (arith, ih.rules_are, ap rules is, ap {B = ℕ} (λ o. cond (is_some o) 1 0) at);
+        held = λ k w in_h. level_below s None p l r h n v u' bit way.some way.bit_is ih.held k w in_h ∙ ap (λ y. cond (eqb v w && eqb n k) None (at_bits y h k w)) (sym is);
+        nodes_kept = omega (arith, ih.nodes_kept, ap nodes is, moved nodes bit l r u');
+        rules_are = omega (arith, ih.rules_are, ap rules is, moved rules bit l r u', ap {B = ℕ} (λ o. cond (is_some o) 1 0) at);
         neat_kept = λ e.
             let parts = ready_parts s p l r h (neat_ready s p l r h (ap (λ y. neat y h) (sym is) ∙ e)) in
-            ready_from s p l r' h (omega (arith, in_v.0, way.some)) parts.0 (ih.neat_kept parts.1);
+            let sides = both (λ y. neat y (h - 1) ≡ true) bit l r u' parts.0 parts.1 ih.neat_kept in
+            ready_from s p _ _ h (omega (arith, in_v.0, way.some)) sides.0 sides.1;
       }
 
-  pub erased_zero : {u l' c₂ : Trie} {h' n' v' : ℕ} → Split h n v false h' n' v' → u ≡ l → Erased u l' c c₂ h' n' v' neat → Erased t (node s p l' r) c c₂ h n v ready
-  erased_zero {u} {l'} {c₂} {h'} {n'} {v'} way eu below =
-      let ih = behind (λ y₁ y₂ y₃. Erased l l' c c₂ y₁ y₂ y₃ neat) way.height_is way.length_is (omega (arith, way.value_is)) (subst (λ y. Erased y l' c c₂ h' n' v' neat) eu below) in
-      let low = leb-false (half h) v (sym way.bit_is) in
-      let at = ap (λ y. at_bits y h n v) is ∙ behind_zero s p l r h n v way.some low in
-      record {
-        held = λ k w in_h. level_zero s None p l r h n v l' way.some low ih.held k w in_h ∙ ap (λ y. cond (eqb v w && eqb n k) None (at_bits y h k w)) (sym is);
-        nodes_kept = omega (arith, ih.nodes_kept, ap nodes is);
-        rules_are = omega (arith, ih.rules_are, ap rules is, ap {B = ℕ} (λ o. cond (is_some o) 1 0) at);
-        neat_kept = λ e.
-            let parts = ready_parts s p l r h (neat_ready s p l r h (ap (λ y. neat y h) (sym is) ∙ e)) in
-            ready_from s p l' r h (omega (arith, in_v.0, way.some)) (ih.neat_kept parts.0) parts.1;
-      }
+-- the same of a node in a box
+module _ {t g c c₁ : Trie} (b : Box Node Global) (h n v : ℕ) (x : Server) (first : Opened t g c c₁) (is : (out-Trie g).0 ≡ Some b) (in_v : Within h n v) where
+  pub inserted_end : (m : Node) → m ≡ b.value → n ≡ 0 → Inserted t (roll-Trie (record { 0 = Some (with_value b (roll-Node (record { server = Some x; zero = (out-Node m).zero; one = (out-Node m).one }))) })) c c₁ h n v x
+  unfolding out-Node roll-Node denote.Hole.Carrier.out denote.Hole.Carrier.roll
+  inserted_end (Node' s l r) em none =
+      subst (λ y. Inserted t y c c₁ h n v x) (rolled (with_value b (Node' (Some x) l r)))
+      (inserted_here h n v x first (shown g b is ∙ ap (λ y. boxed (with_value b y)) (sym em)) in_v (Some x) refl none)
+
+  pub inserted_below : {u u' c₂ : Trie} {bit : Bool} {h' n' v' : ℕ} (m : Node) → m ≡ b.value → Split h n v bit h' n' v' → u ≡ child m bit → Inserted u u' c₁ c₂ h' n' v' x → Inserted t (roll-Trie (record { 0 = Some (with_value b (with_child m bit u')) })) c c₂ h n v x
+  inserted_below {u} {u'} {c₂} {bit} (Node' s l r) em way eu below =
+      subst (λ y. Inserted t y c c₂ h n v x) (rolled (with_value b (with_child (Node' s l r) bit u')))
+      (inserted_behind h n v x first (shown g b is ∙ ap (λ y. boxed (with_value b y)) (sym em)) in_v way eu below)
 
 module _ {t c : Trie} (b : Box Node Global) (h n v : ℕ) (is : (out-Trie t).0 ≡ Some b) (in_v : Within h n v) where
   pub erased_end : (m : Node) → m ≡ b.value → n ≡ 0 → Erased t (roll-Trie (record { 0 = Some (with_value b (roll-Node (record { server = None; zero = (out-Node m).zero; one = (out-Node m).one }))) })) c c h n v ready
@@ -232,12 +204,9 @@ module _ {t c : Trie} (b : Box Node Global) (h n v : ℕ) (is : (out-Trie t).0 �
       (erased_here h n v (shown t b is ∙ ap (λ y. boxed (with_value b y)) (sym em)) in_v None refl none)
 
   pub erased_below : {u u' c₂ : Trie} {bit : Bool} {h' n' v' : ℕ} (m : Node) → m ≡ b.value → Split h n v bit h' n' v' → u ≡ child m bit → Erased u u' c c₂ h' n' v' neat → Erased t (roll-Trie (record { 0 = Some (with_value b (with_child m bit u')) })) c c₂ h n v ready
-  erased_below {u} {u'} {c₂} {bit} {h'} {n'} {v'} (Node' s l r) em way eu below =
-      by bit (shown t b is ∙ ap (λ y. boxed (with_value b y)) (sym em)) way eu
-    where
-      by : (bit : Bool) → t ≡ boxed (with_value b (Node' s l r)) → Split h n v bit h' n' v' → u ≡ child (Node' s l r) bit → Erased t (roll-Trie (record { 0 = Some (with_value b (with_child (Node' s l r) bit u')) })) c c₂ h n v ready
-      by true is_node way eu = subst (λ y. Erased t y c c₂ h n v ready) (rolled (with_value b (Node' s l u'))) (erased_one h n v is_node in_v way eu below)
-      by false is_node way eu = subst (λ y. Erased t y c c₂ h n v ready) (rolled (with_value b (Node' s u' r))) (erased_zero h n v is_node in_v way eu below)
+  erased_below {u} {u'} {c₂} {bit} (Node' s l r) em way eu below =
+      subst (λ y. Erased t y c c₂ h n v ready) (rolled (with_value b (with_child (Node' s l r) bit u')))
+      (erased_behind h n v (shown t b is ∙ ap (λ y. boxed (with_value b y)) (sym em)) in_v way eu below)
 
 -- a cut, and then the idle node
 pub tidy : {t t₁ u t₂ c c₁ c₂ : Trie} (h n v : ℕ) → Erased t t₁ c c₁ h n v ready → u ≡ t₁ → Pruned u t₂ c₁ c₂ → Erased t t₂ c c₂ h n v neat

@@ -1,7 +1,7 @@
 -- Laws of a whole trie.
 use Rattle.std.proofs.Common.{◌≡◌, ℕ, zero, suc, ◌+◌, ◌-◌, ◌*◌, ◌%◌, ◌^◌, ◌<◌, ◌≤◌, Bool, true, false, cond, not, ◌||◌, eqb, ltb, leb, is_some, Some, None, Option, Box, sym, refl, ap, ◌∙◌, subst, add-mul, mul-add, arith}
 use native.Mathlib.Nat.{mod-le}
-use Rattle.std.proofs.lemmas.Bool.{and_parts, eqb-true, ne_eqb, leb-true, leb-false, ltb-true, false≢true, both_ways, cond-true, cond-false}
+use Rattle.std.proofs.lemmas.Bool.{and_parts, eqb-true, ne_eqb, leb-true, leb-false, le-leb, lt-leb, ltb-true, false≢true, both_ways, cond-true, cond-false}
 use Rattle.std.proofs.lemmas.Bool.Decides.{nat_tests}
 use Rattle.std.specs.Option.{option_or}
 use Rattle.std.specs.Box.{with_value}
@@ -19,7 +19,7 @@ use Rattle.memory.specs.DownFrom.{or_assoc, down_cong, down_none, down_shift}
 use Rattle.memory.specs.Covering.{formed_parts, cut_formed}
 use Rattle.memory.proofs.Counting.{counted_none}
 use Rattle.memory.proofs.Halves.{rest_mod}
-use Rattle.memory.proofs.Levels.{behind_one, behind_zero, boxed, shown}
+use Rattle.memory.proofs.Levels.{behind_bit, boxed, shown}
 
 -- a neat tree has a rule below each node
 some_rule : (t : Trie) (h : ℕ) → neat t h ≡ true → is_node t ≡ true → 1 ≤ rules t
@@ -90,10 +90,10 @@ look_by : (s : Option Server) (p : Box (Unit {0}) Global) (l r : Trie) (h v : �
     → option_or (cond b (look_in r (h - 1) (v - half h)) (look_in l (h - 1) v)) s ≡ option_or (down_from (h - 1) (λ n. at_bits (Trie' (Some' p (Node' s l r))) h (suc n) v)) s
 look_by s p l r h v true e pos f g =
     ap (λ o. option_or o s) (f ∙ sym (down_cong (h - 1) (λ n. at_bits (Trie' (Some' p (Node' s l r))) h (suc n) v) (λ n. at_bits r (h - 1) n (v - half h))
-    (λ n a. let one : suc n - 1 ≡ n = omega arith in behind_one s p l r h (suc n) v (omega arith) (leb-true (half h) v e) ∙ ap (λ m. at_bits r (h - 1) m (v - half h)) one)))
+    (λ n a. let one : suc n - 1 ≡ n = omega arith in behind_bit s p l r h (suc n) v true (omega arith) (sym e) ∙ ap (λ m. at_bits r (h - 1) m (v - half h)) one)))
 look_by s p l r h v false e pos f g =
     ap (λ o. option_or o s) (g ∙ sym (down_cong (h - 1) (λ n. at_bits (Trie' (Some' p (Node' s l r))) h (suc n) v) (λ n. at_bits l (h - 1) n v)
-    (λ n a. let one : suc n - 1 ≡ n = omega arith in behind_zero s p l r h (suc n) v (omega arith) (leb-false (half h) v e) ∙ ap (λ m. at_bits l (h - 1) m v) one)))
+    (λ n a. let one : suc n - 1 ≡ n = omega arith in behind_bit s p l r h (suc n) v false (omega arith) (sym e) ∙ ap (λ m. at_bits l (h - 1) m v) one)))
 
 -- one bit further down: what the node has goes before the best so far
 looked_node : (s : Option Server) (p : Box (Unit {0}) Global) (l r u : Trie) (h n v h' n' v' : ℕ) (best : Option Server) (bit : Bool) → Split h n v bit h' n' v' → n ≡ h → u ≡ child (Node' s l r) bit
@@ -108,8 +108,7 @@ looked_node s p l r u h n v h' n' v' best bit way whole eu = or_assoc (look_in u
         ap (λ t. look_in t h' v') eu ∙ ap (λ k. look_in r k v') way.height_is ∙ ap (look_in r (h - 1)) way.value_is
         ∙ sym (cond-true (leb (half h) v) _ (look_in l (h - 1) v) (sym way.bit_is)) ∙ down _
     by false way eu =
-        let rest : v' ≡ v = omega (arith, way.value_is) in
-        ap (λ t. look_in t h' v') eu ∙ ap (λ k. look_in l k v') way.height_is ∙ ap (look_in l (h - 1)) rest
+        ap (λ t. look_in t h' v') eu ∙ ap (λ k. look_in l k v') way.height_is ∙ ap (look_in l (h - 1)) way.value_is
         ∙ sym (cond-false (leb (half h) v) (look_in r (h - 1) (v - half h)) _ (sym way.bit_is)) ∙ down _
 
 pub looked_below : (g : Trie) (b : Box Node Global) (h n v : ℕ) (best : Option Server) {u : Trie} {o : Option Server} {bit : Bool} {h' n' v' : ℕ} → (out-Trie g).0 ≡ Some b → Split h n v bit h' n' v' → n ≡ h
@@ -159,17 +158,17 @@ cut_trie (Trie' (Some' p (Node' s l r))) h n v le = by (cut_trie r (h - 1) (n - 
         let low = mod-le (v - half h) (2 ^ (h - n)) in
         let above : half h ≤ v - v % 2 ^ (h - n) = omega (arith, same, low) in
         let rest : (v - v % 2 ^ (h - n)) - half h ≡ (v - half h) - (v - half h) % 2 ^ (h - n) = omega (arith, same, low) in
-        behind_one s p l r h n (v - v % 2 ^ (h - n)) pos above
+        behind_bit s p l r h n (v - v % 2 ^ (h - n)) true pos (sym (le-leb (half h) (v - v % 2 ^ (h - n)) above))
         ∙ ap (at_bits r (h - 1) (n - 1)) rest
         ∙ ap (λ i. at_bits r (h - 1) (n - 1) ((v - half h) - (v - half h) % 2 ^ i)) (sym j)
-        ∙ f (omega arith) ∙ sym (behind_one s p l r h n v pos high)
+        ∙ f (omega arith) ∙ sym (behind_bit s p l r h n v true pos (sym eb))
     by f g false ez false eb =
         let pos : 0 < n = grind (arith, nat_tests) in
         let low : v < half h = leb-false (half h) v eb in
         let j : (h - 1) - (n - 1) ≡ h - n = omega arith in
-        behind_zero s p l r h n (v - v % 2 ^ (h - n)) pos (omega arith)
+        behind_bit s p l r h n (v - v % 2 ^ (h - n)) false pos (sym (lt-leb (half h) (v - v % 2 ^ (h - n)) (omega arith)))
         ∙ ap (λ i. at_bits l (h - 1) (n - 1) (v - v % 2 ^ i)) (sym j)
-        ∙ g (omega arith) ∙ sym (behind_zero s p l r h n v pos low)
+        ∙ g (omega arith) ∙ sym (behind_bit s p l r h n v false pos (sym eb))
 
 pub trie_longest : (t : Trie) (key : ℕ) → key < 2 ^ 32 → look_in t 32 key ≡ longest (in_trie t) key
 trie_longest t key small =

@@ -17,7 +17,7 @@ abbrev pub child : Node → Bool → Trie
 child (Node' s l r) b = cond b r l
 
 abbrev pub with_child : Node → Bool → Trie → Node
-with_child (Node' s l r) b t = cond b (Node' s l t) (Node' s t r)
+with_child (Node' s l r) b t = Node' s (cond b l t) (cond b t r)
 
 -- The server at the first n of the h bits of v.
 abbrev pub at_bits : Trie → ℕ → ℕ → ℕ → Option Server
@@ -43,7 +43,7 @@ pub record Split (h n v : ℕ) (bit : Bool) (h' n' v' : ℕ) : Type 0 where
   pub bit_is : bit ≡ nat_le (half h) v
   pub height_is : h' ≡ h - 1
   pub length_is : n' ≡ n - 1
-  pub value_is : v' ≡ v - cond bit (half h) 0
+  pub value_is : v' ≡ cond bit (v - half h) v
 
 -- A node that holds nothing, over two empty tries.
 abbrev pub bare : Trie → Bool
