@@ -1,25 +1,24 @@
 -- Laws of a whole trie.
 use Rattle.std.proofs.Common.{◌≡◌, ℕ, zero, suc, ◌+◌, ◌-◌, ◌*◌, ◌%◌, ◌^◌, ◌<◌, ◌≤◌, Bool, true, false, cond, not, ◌||◌, eqb, ltb, leb, is_some, Some, None, Option, Box, sym, refl, ap, ◌∙◌, subst, add-mul, mul-add, arith}
 use native.Mathlib.Nat.{mod-le}
-use Rattle.std.proofs.lemmas.Bool.{and_parts, eqb-true, ne_eqb, leb-true, leb-false, le-leb, lt-leb, ltb-true, false≢true, both_ways, cond-true, cond-false}
+use Rattle.std.proofs.lemmas.Bool.{and_parts, eqb-true, ne_eqb, leb-true, leb-false, le-leb, lt-leb, ltb-true, false≢true, both_ways, cond-true}
 use Rattle.std.proofs.lemmas.Bool.Decides.{nat_tests}
 use Rattle.std.specs.Option.{option_or}
-use Rattle.std.specs.Box.{with_value}
 use Rattle.std.specs.declared.alloc.Global.{Global}
 use Rattle.rules.specs.declared.server.Server.{Server}
 use Rattle.memory.specs.declared.key.Prefix.{Prefix}
-use Rattle.memory.specs.declared.trie.Trie.{Trie, Trie', None', Some', out-Trie}
-use Rattle.memory.specs.declared.trie.Node.{Node, Node', out-Node}
+use Rattle.memory.specs.declared.trie.Trie.{Trie, Trie', None', Some'}
+use Rattle.memory.specs.declared.trie.Node.{Node'}
 use Rattle.memory.specs.Keys.{cut, formed}
 use Rattle.memory.specs.Holding.{at, same_prefix, Counted}
 use Rattle.memory.specs.Looks.{longest, down_from}
 use Rattle.memory.specs.Writes.{written}
-use Rattle.memory.specs.Tries.{child, Split, half, at_bits, in_trie, look_in, Within, is_node, nodes, rules, neat, spares}
-use Rattle.memory.specs.DownFrom.{or_assoc, down_cong, down_none, down_shift}
+use Rattle.memory.specs.Tries.{half, at_bits, in_trie, look_in, Within, is_node, nodes, rules, neat, spares}
+use Rattle.memory.specs.DownFrom.{down_cong, down_none, down_shift}
 use Rattle.memory.specs.Covering.{formed_parts, cut_formed}
 use Rattle.memory.proofs.Counting.{counted_none}
 use Rattle.memory.proofs.Halves.{rest_mod}
-use Rattle.memory.proofs.Levels.{behind_bit, boxed, shown}
+use Rattle.memory.proofs.Levels.{behind_bit}
 
 -- a neat tree has a rule below each node
 some_rule : (t : Trie) (h : ℕ) → neat t h ≡ true → is_node t ≡ true → 1 ≤ rules t
@@ -94,31 +93,6 @@ look_by s p l r h v true e pos f g =
 look_by s p l r h v false e pos f g =
     ap (λ o. option_or o s) (g ∙ sym (down_cong (h - 1) (λ n. at_bits (Trie' (Some' p (Node' s l r))) h (suc n) v) (λ n. at_bits l (h - 1) n v)
     (λ n a. let one : suc n - 1 ≡ n = omega arith in behind_bit s p l r h (suc n) v false (omega arith) (sym e) ∙ ap (λ m. at_bits l (h - 1) m v) one)))
-
--- one bit further down: what the node has goes before the best so far
-looked_node : (s : Option Server) (p : Box (Unit {0}) Global) (l r u : Trie) (h n v h' n' v' : ℕ) (best : Option Server) (bit : Bool) → Split h n v bit h' n' v' → n ≡ h → u ≡ child (Node' s l r) bit
-    → option_or (look_in u h' v') (option_or s best) ≡ option_or (look_in (Trie' (Some' p (Node' s l r))) h v) best
-looked_node s p l r u h n v h' n' v' best bit way whole eu = or_assoc (look_in u h' v') s best ∙ ap (λ o. option_or (option_or o s) best) (by bit way eu)
-  where
-    down : (o : Option Server) → o ≡ cond (eqb h 0) None o
-    down o = sym (cond-false (eqb h 0) None o (ne_eqb h 0 (λ e. omega (arith, way.some, whole))))
-
-    by : (bit : Bool) → Split h n v bit h' n' v' → u ≡ child (Node' s l r) bit → look_in u h' v' ≡ cond (eqb h 0) None (cond (leb (half h) v) (look_in r (h - 1) (v - half h)) (look_in l (h - 1) v))
-    by true way eu =
-        ap (λ t. look_in t h' v') eu ∙ ap (λ k. look_in r k v') way.height_is ∙ ap (look_in r (h - 1)) way.value_is
-        ∙ sym (cond-true (leb (half h) v) _ (look_in l (h - 1) v) (sym way.bit_is)) ∙ down _
-    by false way eu =
-        ap (λ t. look_in t h' v') eu ∙ ap (λ k. look_in l k v') way.height_is ∙ ap (look_in l (h - 1)) way.value_is
-        ∙ sym (cond-false (leb (half h) v) (look_in r (h - 1) (v - half h)) _ (sym way.bit_is)) ∙ down _
-
-pub looked_below : (g : Trie) (b : Box Node Global) (h n v : ℕ) (best : Option Server) {u : Trie} {o : Option Server} {bit : Bool} {h' n' v' : ℕ} → (out-Trie g).0 ≡ Some b → Split h n v bit h' n' v' → n ≡ h
-    → u ≡ child b.value bit → o ≡ option_or (out-Node b.value).server best → option_or (look_in u h' v') o ≡ option_or (look_in g h v) best
-unfolding out-Node denote.Hole.Carrier.out
-looked_below g b h n v best {u} {o} {bit} {h'} {n'} {v'} is way whole eu eo =
-    ap (option_or (look_in u h' v')) eo ∙ by b.value eu ∙ ap (λ t. option_or (look_in t h v) best) (sym (shown g b is))
-  where
-    by : (m : Node) → u ≡ child m bit → option_or (look_in u h' v') (option_or (out-Node m).server best) ≡ option_or (look_in (boxed (with_value b m)) h v) best
-    by (Node' s l r) eu = looked_node s (record { ptr = b.ptr; alloc = b.alloc; value = tt }) l r u h n v h' n' v' best bit way whole eu
 
 pub look_down : (t : Trie) (h v : ℕ) → look_in t h v ≡ down_from h (λ n. at_bits t h n v)
 unfolding down_from

@@ -32,7 +32,7 @@ down_skip (suc n) m f h e =
       | inr less ↦ ap (λ o. option_or o (down_from n f)) (e (suc n) (omega arith) (omega arith)) ∙ down_skip n m f (omega arith) (λ l a b. e l a (omega arith))
     ]
 
-pub or_assoc : (a b c : Option Server) → option_or a (option_or b c) ≡ option_or (option_or a b) c
+or_assoc : (a b c : Option Server) → option_or a (option_or b c) ≡ option_or (option_or a b) c
 or_assoc None b c = refl
 or_assoc (Some s) b c = refl
 

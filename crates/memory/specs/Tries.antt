@@ -5,7 +5,7 @@ use Rattle.std.specs.Option.{option_or}
 use Rattle.rules.specs.declared.server.Server.{Server}
 use Rattle.memory.specs.Keys.{formed}
 use Rattle.memory.specs.Holding.{Held}
-use Rattle.memory.specs.declared.trie.Trie.{Trie, Trie', Held-Trie-0, None', Some'}
+use Rattle.memory.specs.declared.trie.Trie.{Trie, Trie', None', Some'}
 use Rattle.memory.specs.declared.trie.Node.{Node, Node'}
 
 -- What the first of h bits stands for.

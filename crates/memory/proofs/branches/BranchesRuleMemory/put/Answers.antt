@@ -1,8 +1,8 @@
-use Rattle.std.proofs.Common.{◌≡◌, ◌+◌, ◌≤◌, ℕ, Bool, true, false, cond, not, is_some, Some, None, sym, refl, ap, ◌∙◌, arith}
+use Rattle.std.proofs.Common.{◌≡◌, ◌+◌, ◌≤◌, ℕ, Bool, true, false, cond, not, is_some, Some, sym, refl, ap, ◌∙◌, arith}
 use mathlib.Core.Logic.{∥∥₁_map}
 use mir.Val.{bool_byte}
 use Rattle.std.proofs.lemmas.Bool.{false≢true}
-use Rattle.memory.specs.Tries.{at_bits, in_trie, Inserted}
+use Rattle.memory.specs.Tries.{at_bits, Inserted}
 use Rattle.memory.proofs.Counting.{counted_put}
 use Rattle.memory.proofs.Levels.{behind}
 use Rattle.memory.proofs.TrieLaws.{trie_written, trie_at, nodes_left}

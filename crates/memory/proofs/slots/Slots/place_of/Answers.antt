@@ -1,4 +1,4 @@
-use Rattle.std.proofs.Common.{rules, ◌≡◌, true, ltb, length, ap, ◌∙◌, arith}
+use Rattle.std.proofs.Common.{rules, ltb, ap, ◌∙◌}
 use Rattle.std.proofs.lemmas.List.Sorted.{IsPartitionPoint-from_clause}
 use Rattle.memory.specs.declared.row.Row.{Row}
 use Rattle.memory.specs.Rows.{row_prefixes, falling, place_of}

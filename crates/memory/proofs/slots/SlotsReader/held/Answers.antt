@@ -1,4 +1,4 @@
-use Rattle.std.proofs.Common.{◌≡◌, get_or, None, Some, sym, ap, ◌∙◌, arith}
+use Rattle.std.proofs.Common.{get_or, Some, sym, ap, ◌∙◌, arith}
 use Rattle.memory.specs.RowLaws.{row_held}
 use Rattle.memory.proofs.RowSearches.{found, missing}
 use Rattle.memory.proofs.slots.SlotsReader.held.Goals as goal

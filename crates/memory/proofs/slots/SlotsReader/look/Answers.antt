@@ -1,4 +1,4 @@
-use Rattle.std.proofs.Common.{rules, ◌≡◌, ◌∙◌, sym, ap, None, Some, arith}
+use Rattle.std.proofs.Common.{rules, ◌≡◌, ◌∙◌, sym, ap, arith}
 use Rattle.std.proofs.lemmas.Iterator.{YieldsList-from_slice}
 use Rattle.std.proofs.lemmas.Iterator.Search.{find_from_yields_List}
 use Rattle.std.specs.Option.{option_map}
@@ -6,7 +6,7 @@ use Rattle.std.specs.List.{find}
 use borrow.Author.Tests.{tests}
 use Rattle.memory.specs.declared.row.Row.{Row}
 use Rattle.memory.specs.Looks.{longest}
-use Rattle.memory.specs.Rows.{in_rows, first_match, matches}
+use Rattle.memory.specs.Rows.{in_rows, matches}
 use Rattle.memory.specs.RowLaws.{first_longest}
 use Rattle.memory.proofs.Longest.{looked}
 use Rattle.memory.proofs.RowSearches.{answers, server_of}

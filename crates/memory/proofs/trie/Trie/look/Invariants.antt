@@ -1,4 +1,4 @@
-use Rattle.std.proofs.Common.{◌≡◌, ◌≤◌}
+use Rattle.std.proofs.Common.{◌≡◌}
 use Rattle.std.specs.Option.{option_or}
 use Rattle.memory.specs.Tries.{look_in}
 use Rattle.memory.proofs.trie.Trie.look.Given as goal
