@@ -12,10 +12,10 @@ use Rattle.memory.specs.Holding.{Held, at, same_prefix, Counted}
 use Rattle.plan.specs.Measures.{Misses}
 use Rattle.plan.specs.Plans.{plan_weights}
 use Rattle.model.specs.declared.answer.Answer.{Answer}
-use Rattle.model.specs.declared.answer.Answer.TheVariants.{Done, Drafted, Seen}
+use Rattle.model.specs.declared.answer.Answer.TheVariants.{Done, Seen}
 use Rattle.model.specs.declared.answer.Forecast.{Forecast}
 use Rattle.model.specs.declared.call.Call.{Call}
-use Rattle.model.specs.declared.call.Call.TheVariants.{Place, Accept, Discard, Step, Close, Look}
+use Rattle.model.specs.declared.call.Call.TheVariants.{Accept, Step, Close, Look}
 use Rattle.model.specs.declared.order.Order.{Order}
 use Rattle.model.specs.declared.write.Write.{Write}
 use Rattle.model.specs.declared.write.Write.TheVariants.{Remove, Put}
@@ -23,11 +23,10 @@ use Rattle.model.specs.Changes.{steps, write_at, after_write, altered}
 use Rattle.model.specs.Grounds.{order_grounds, look_grounds}
 use Rattle.model.specs.Keyed.{key, contents}
 use Rattle.model.specs.Models.{at_rest, drafted, changing, Model, model, coming, order_steps, forecast, unless, kept_if, look_answer, model_contents, model_answer, model_next}
-use Rattle.model.specs.Sound.{Sound}
 use Rattle.model.proofs.Changing.{Formed, one_more, writes_formed, same_looks}
 use Rattle.model.proofs.Laws.{plan_A, plan_B, finds, has_room, arrives}
 use Rattle.model.proofs.Models.{next_sound, answer_look}
-use Rattle.switch.specs.Calls.{place_grounds, forecast_of, current, accept_grounds, accept_desk, discard_grounds, write_grounds, write_refusal, step_refusal, step_desk, held_after, step_held, close_refusal, close_desk}
+use Rattle.switch.specs.Calls.{current, accept_grounds, accept_desk, write_grounds, write_refusal, step_refusal, step_desk, held_after, step_held, close_refusal, close_desk}
 use Rattle.switch.specs.Desks.{Desk, View}
 use Rattle.switch.specs.Kept.{model_desk, Under}
 
@@ -37,21 +36,7 @@ pub record Follows (miss : Misses) (m : Model) (call : Call) (answer : Answer) (
   pub under : Under miss (model_next miss m call) d v
 
 module _ (miss : Misses) (W R : ℕ) (ts : List (Option ℕ)) where
-  -- ---- orders
-
-  pub place_follows : (o : Order) (d : Desk) (v : View) → Under miss (model W R ts at_rest) d v
-      → Follows miss (model W R ts at_rest) (Place o) (unless (first (place_grounds d o)) (Drafted (forecast_of miss d o))) d v
-  place_follows o d v u = record {
-    answered = ap (λ (x : Desk). unless (first (place_grounds x o)) (Drafted (forecast_of miss x o))) u.register;
-    under = go (first (order_grounds W R ts o)) (next_sound miss (model W R ts at_rest) (Place o) u.sound);
-  }
-    where
-      go : (g : Option Refusal) → Sound miss (kept_if g (model W R ts at_rest) (model W R ts (drafted o)))
-          → Under miss (kept_if g (model W R ts at_rest) (model W R ts (drafted o))) d v
-      go None s = record { sound = s; register = u.register; limit = u.limit; holds = u.holds }
-      go (Some why) s = record { sound = s; register = u.register; limit = u.limit; holds = u.holds }
-
-  -- ---- accept and discard
+  -- ---- accept
 
   is_current : (o : Order) → first (order_grounds W R ts o) ≡ None → current miss (model_desk miss (model W R ts (drafted o))) (forecast miss (model W R ts (drafted o)) o) ≡ true
   is_current o e =
@@ -80,13 +65,6 @@ module _ (miss : Misses) (W R : ℕ) (ts : List (Option ℕ)) where
     where
       now : current miss (model_desk miss (model W R ts (drafted o))) (forecast miss (model W R ts (drafted o)) o) ≡ true
       now = is_current o u.sound.phase
-
-  pub discard_follows : (o : Order) (d : Desk) (v : View) → Under miss (model W R ts (drafted o)) d v
-      → Follows miss (model W R ts (drafted o)) Discard (unless (first (discard_grounds d)) Done) d v
-  discard_follows o d v u = record {
-    answered = ap (λ (x : Desk). unless (first (discard_grounds x)) Done) u.register;
-    under = record { sound = next_sound miss (model W R ts (drafted o)) Discard u.sound; register = u.register; limit = u.limit; holds = u.holds };
-  }
 
 -- ---- look
 
