@@ -25,7 +25,7 @@ pub fn enter<E: Measure>(
     ensures refused { refusal_of result ≡ first (place_grounds (desk register.now) (Enter tag target)) }
     ensures state { MatchResult result (λ d. d.forecast ≡ forecast_of (E.Measure.miss measure.now) (desk register.now) (Enter tag target)) (λ e. e.state ≡ resting) }
 {
-    place(resting, register, measure, Order::Enter { tag, target })
+    place_order(resting, Order::Enter { tag, target }, measure, register)
 }
 
 // Asks for another target of a service. Refused in a change, for a tag above 63, a target above 2^W, and then for a tag without a service.
@@ -39,7 +39,7 @@ pub fn reweigh<E: Measure>(
     ensures refused { refusal_of result ≡ first (place_grounds (desk register.now) (Reweigh tag target)) }
     ensures state { MatchResult result (λ d. d.forecast ≡ forecast_of (E.Measure.miss measure.now) (desk register.now) (Reweigh tag target)) (λ e. e.state ≡ resting) }
 {
-    place(resting, register, measure, Order::Reweigh { tag, target })
+    place_order(resting, Order::Reweigh { tag, target }, measure, register)
 }
 
 // Asks for a service to go. Refused in a change, for a tag above 63, and then for a tag without a service.
@@ -52,31 +52,15 @@ pub fn withdraw<E: Measure>(
     ensures refused { refusal_of result ≡ first (place_grounds (desk register.now) (Withdraw tag)) }
     ensures state { MatchResult result (λ d. d.forecast ≡ forecast_of (E.Measure.miss measure.now) (desk register.now) (Withdraw tag)) (λ e. e.state ≡ resting) }
 {
-    place(resting, register, measure, Order::Withdraw { tag })
+    place_order(resting, Order::Withdraw { tag }, measure, register)
 }
 
-// Places an order of any kind by its own call.
+// Places an order of any kind, as its own call does.
 pub fn place_order<E: Measure>(
     resting: Resting,
     order: Order,
     measure: &E,
     register: &Register,
-) -> Result<Draft, Refused<Resting>>
-    ensures refused { refusal_of result ≡ first (place_grounds (desk register.now) order) }
-    ensures state { MatchResult result (λ d. d.forecast ≡ forecast_of (E.Measure.miss measure.now) (desk register.now) order) (λ e. e.state ≡ resting) }
-{
-    match order {
-        Order::Enter { tag, target } => enter(resting, register, measure, tag, target),
-        Order::Reweigh { tag, target } => reweigh(resting, register, measure, tag, target),
-        Order::Withdraw { tag } => withdraw(resting, register, measure, tag),
-    }
-}
-
-fn place<E: Measure>(
-    resting: Resting,
-    register: &Register,
-    measure: &E,
-    order: Order,
 ) -> Result<Draft, Refused<Resting>>
     ensures refused { refusal_of result ≡ first (place_grounds (desk register.now) order) }
     ensures state { MatchResult result (λ d. d.forecast ≡ forecast_of (E.Measure.miss measure.now) (desk register.now) order) (λ e. e.state ≡ resting) }
