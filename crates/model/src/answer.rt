@@ -4,7 +4,7 @@ use rules::refusal::Refusal;
 use rules::server::Server;
 
 // What comes of an order once it is carried out: the worst miss, the rules of all services, and how many steps lead there.
-#[derive(Clone, Copy)]
+#[derive(Clone, Copy, PartialEq, Eq, Debug)]
 pub struct Forecast {
     pub order: Order,
     pub worst: u64,
@@ -12,7 +12,7 @@ pub struct Forecast {
     pub steps: u32,
 }
 
-#[derive(Clone, Copy)]
+#[derive(Clone, Copy, PartialEq, Eq, Debug)]
 pub enum Answer {
     // Carried out, and there is nothing to tell.
     Done,

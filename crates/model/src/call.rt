@@ -1,7 +1,7 @@
 // The calls of a switch once it is made.
 use crate::order::Order;
 
-#[derive(Clone, Copy)]
+#[derive(Clone, Copy, PartialEq, Eq, Debug)]
 pub enum Call {
     // An entry, a reweigh or a withdrawal: asks for a draft.
     Place(Order),

@@ -1,12 +1,12 @@
 // A draft accepted or discarded.
-ghost use Rattle.std.specs.Prelude.{◌≡◌, length, IfOk, MatchResult};
+ghost use Rattle.std.specs.Prelude.{◌≡◌, IfOk, MatchResult};
 ghost use Rattle.rules.specs.Refusals.{first, refusal};
 ghost use Rattle.switch.specs.Accepted.{Confirmed};
-ghost use Rattle.switch.specs.Calls.{refusal_of, same_numbers, accept_grounds, accept_desk, discard_grounds};
-ghost use Rattle.switch.specs.Desks.{desk, underway};
+ghost use Rattle.switch.specs.Calls.{refusal_of, accept_grounds, accept_desk, discard_grounds};
+ghost use Rattle.switch.specs.Desks.{desk};
 
 use crate::change::Change;
-use crate::prospect::{Prospect, foresee};
+use crate::prospect::foresee;
 use crate::register::Register;
 use crate::state::{Changing, Draft, Refused, Resting};
 use model::answer::Forecast;
@@ -48,31 +48,17 @@ fn confirm<E: Measure>(
     if register.change.is_some() {
         return Err(Refusal::StateMismatch);
     }
-    let Ok(prospect) = foresee(register, measure, forecast.order) else {
-        return Err(Refusal::StateMismatch);
-    };
-    if !same_numbers(prospect.forecast, forecast) {
-        return Err(Refusal::StateMismatch);
-    }
-    Ok(all_left(prospect, forecast))
-}
-
-fn same_numbers(now: Forecast, then: Forecast) -> bool
-    ensures { result ≡ same_numbers then now }
-{
-    then.worst == now.worst && then.rules == now.rules && then.steps == now.steps
-}
-
-fn all_left(prospect: Prospect, forecast: Forecast) -> Change
-    requires { length prospect.weights ≡ 64 }
-    ensures { underway result ≡ record { order = forecast.order; weights = prospect.weights; steps = forecast.steps; left = forecast.steps } }
-{
-    let weights = prospect.weights;
-    Change {
-        order: forecast.order,
-        weights,
-        steps: forecast.steps,
-        left: forecast.steps,
+    match foresee(register, measure, forecast.order) {
+        Ok(prospect) if prospect.forecast == forecast => {
+            let weights = prospect.weights;
+            Ok(Change {
+                order: forecast.order,
+                weights,
+                steps: forecast.steps,
+                left: forecast.steps,
+            })
+        }
+        _ => Err(Refusal::StateMismatch),
     }
 }
 
