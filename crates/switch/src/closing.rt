@@ -15,18 +15,16 @@ pub fn close(changing: Changing, register: &mut Register) -> Result<Resting, Ref
     ensures register { desk register.new ≡ close_desk (desk register.old) }
     ensures state { MatchResult result (λ s. s.width ≡ register.old.width.bits) (λ e. e.state ≡ changing) }
 {
-    match settle(register) {
-        Ok(()) => {
-            let Changing { steps: _ } = changing;
-            Ok(Resting {
-                width: register.width.bits(),
-            })
-        }
-        Err(why) => Err(Refused {
+    if let Err(why) = settle(register) {
+        return Err(Refused {
             state: changing,
             why,
-        }),
+        });
     }
+    let Changing { steps: _ } = changing;
+    Ok(Resting {
+        width: register.width.bits(),
+    })
 }
 
 fn settle(register: &mut Register) -> Result<(), Refusal>
@@ -41,12 +39,8 @@ fn settle(register: &mut Register) -> Result<(), Refusal>
     }
     let targets = apply(register.targets, change.order);
     let weights = change.weights;
-    *register = Register {
-        width: register.width,
-        capacity: register.capacity,
-        targets,
-        weights,
-        change: None,
-    };
+    register.targets = targets;
+    register.weights = weights;
+    register.change = None;
     Ok(())
 }
