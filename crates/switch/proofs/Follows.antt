@@ -26,7 +26,7 @@ use Rattle.model.specs.Models.{at_rest, drafted, changing, Model, model, coming,
 use Rattle.model.proofs.Changing.{Formed, one_more, writes_formed, same_looks}
 use Rattle.model.proofs.Laws.{plan_A, plan_B, finds, has_room, arrives}
 use Rattle.model.proofs.Models.{next_sound, answer_look}
-use Rattle.switch.specs.Calls.{current, accept_grounds, accept_desk, write_grounds, write_refusal, step_refusal, step_desk, held_after, step_held, close_refusal, close_desk}
+use Rattle.switch.specs.Calls.{current, accept_desk, write_grounds, write_refusal, step_refusal, step_desk, held_after, step_held, close_refusal, close_desk}
 use Rattle.switch.specs.Desks.{Desk, View}
 use Rattle.switch.specs.Kept.{model_desk, Under}
 
@@ -49,18 +49,14 @@ module _ (miss : Misses) (W R : ℕ) (ts : List (Option ℕ)) where
   none_yet h ws v l = let z : length ws - length ws ≡ 0 = omega arith in ap (λ (k : ℕ). altered h (take k ws) v l) z
 
   pub accept_follows : (o : Order) (f : Forecast) (d : Desk) (v : View) → f ≡ forecast miss (model W R ts (drafted o)) o → Under miss (model W R ts (drafted o)) d v
-      → Follows miss (model W R ts (drafted o)) Accept (unless (first (accept_grounds miss d f)) Done) (accept_desk miss d f) v
+      → Under miss (model W R ts (changing o (length (order_steps miss (model W R ts at_rest) o)))) (accept_desk miss d f) v
   accept_follows o f d v e u = record {
-    answered = ap₂ (λ (x : Desk) (y : Forecast). unless (first (accept_grounds miss x y)) Done) u.register e
-        ∙ ap (λ (c : Bool). unless (cond (not c) (Some StateMismatch) None) Done) now;
-    under = record {
-      sound = next_sound miss (model W R ts (drafted o)) Accept u.sound;
-      register = ap₂ (λ (x : Desk) (y : Forecast). accept_desk miss x y) u.register e
-          ∙ ap (λ (c : Bool). kept_if (cond (not c) (Some StateMismatch) None) (model_desk miss (model W R ts (drafted o)))
-          (model_desk miss (model W R ts (changing o (length (order_steps miss (model W R ts at_rest) o)))))) now;
-      limit = u.limit;
-      holds = λ x l. u.holds x l ∙ sym (none_yet (contents W (plan_weights miss W R ts)) (order_steps miss (model W R ts at_rest) o) x l);
-    };
+    sound = next_sound miss (model W R ts (drafted o)) Accept u.sound;
+    register = ap₂ (λ (x : Desk) (y : Forecast). accept_desk miss x y) u.register e
+        ∙ ap (λ (c : Bool). kept_if (cond (not c) (Some StateMismatch) None) (model_desk miss (model W R ts (drafted o)))
+        (model_desk miss (model W R ts (changing o (length (order_steps miss (model W R ts at_rest) o)))))) now;
+    limit = u.limit;
+    holds = λ x l. u.holds x l ∙ sym (none_yet (contents W (plan_weights miss W R ts)) (order_steps miss (model W R ts at_rest) o) x l);
   }
     where
       now : current miss (model_desk miss (model W R ts (drafted o))) (forecast miss (model W R ts (drafted o)) o) ≡ true

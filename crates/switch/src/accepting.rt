@@ -8,7 +8,7 @@ ghost use Rattle.switch.specs.Desks.{desk};
 use crate::change::Change;
 use crate::prospect::foresee;
 use crate::register::Register;
-use crate::state::{Changing, Draft, Refused, Resting};
+use crate::state::{Changing, Draft, Refused, Resting, hand_back};
 use model::answer::Forecast;
 use plan::measure::Measure;
 use rules::refusal::Refusal;
@@ -24,16 +24,14 @@ pub fn accept<E: Measure>(
     ensures register { desk register.new ≡ accept_desk (E.Measure.miss measure.now) (desk register.old) draft.forecast }
     ensures state { MatchResult result (λ c. c.steps ≡ draft.forecast.steps) (λ e. e.state ≡ draft) }
 {
-    match confirm(register, measure, draft.forecast) {
-        Ok(change) => {
-            let Draft { forecast } = draft;
-            register.change = Some(change);
-            Ok(Changing {
-                steps: forecast.steps,
-            })
-        }
-        Err(why) => Err(Refused { state: draft, why }),
-    }
+    let (change, Draft { forecast }) = hand_back(
+        confirm(register, measure, draft.forecast),
+        draft,
+    )?;
+    register.change = Some(change);
+    Ok(Changing {
+        steps: forecast.steps,
+    })
 }
 
 // The change that a draft promised, if it is still what its order gives.

@@ -6,7 +6,7 @@ ghost use Rattle.switch.specs.Desks.{desk};
 
 use crate::prospect::apply;
 use crate::register::Register;
-use crate::state::{Changing, Refused, Resting};
+use crate::state::{Changing, Refused, Resting, hand_back};
 use rules::refusal::Refusal;
 
 // Makes the coming plan the standing one. Refused where no change is under way, and then while a step is left.
@@ -15,13 +15,7 @@ pub fn close(changing: Changing, register: &mut Register) -> Result<Resting, Ref
     ensures register { desk register.new ≡ close_desk (desk register.old) }
     ensures state { MatchResult result (λ s. s.width ≡ register.old.width.bits) (λ e. e.state ≡ changing) }
 {
-    if let Err(why) = settle(register) {
-        return Err(Refused {
-            state: changing,
-            why,
-        });
-    }
-    let Changing { steps: _ } = changing;
+    let ((), Changing { steps: _ }) = hand_back(settle(register), changing)?;
     Ok(Resting {
         width: register.width.bits(),
     })

@@ -7,7 +7,7 @@ ghost use Rattle.switch.specs.Desks.{desk};
 
 use crate::prospect::foresee;
 use crate::register::Register;
-use crate::state::{Draft, Refused, Resting};
+use crate::state::{Draft, Refused, Resting, hand_back};
 use model::answer::Forecast;
 use model::order::Order;
 use plan::measure::Measure;
@@ -65,16 +65,8 @@ pub fn place_order<E: Measure>(
     ensures refused { refusal_of result ≡ first (place_grounds (desk register.now) order) }
     ensures state { MatchResult result (λ d. d.forecast ≡ forecast_of (E.Measure.miss measure.now) (desk register.now) order) (λ e. e.state ≡ resting) }
 {
-    match draft(register, measure, order) {
-        Ok(forecast) => {
-            let Resting { width: _ } = resting;
-            Ok(Draft { forecast })
-        }
-        Err(why) => Err(Refused {
-            state: resting,
-            why,
-        }),
-    }
+    let (forecast, Resting { width: _ }) = hand_back(draft(register, measure, order), resting)?;
+    Ok(Draft { forecast })
 }
 
 fn draft<E: Measure>(register: &Register, measure: &E, order: Order) -> Result<Forecast, Refusal>

@@ -9,7 +9,7 @@ use crate::closing::close;
 use crate::looking::look;
 use crate::orders::place_order;
 use crate::register::Register;
-use crate::state::{Refused, State};
+use crate::state::{Refused, State, hand_back};
 use crate::stepping::step;
 use memory::reader::Reader;
 use memory::rule_memory::RuleMemory;
@@ -64,10 +64,10 @@ fn try_call<M: RuleMemory, E: Measure>(
             let resting = close(changing, register)?;
             Ok((State::Resting(resting), Answer::Done))
         }
-        (Call::Look { tag, address }, state) => match look(register, memory, tag, address) {
-            Ok(server) => Ok((state, Answer::Seen(server))),
-            Err(why) => Err(Refused { state, why }),
-        },
+        (Call::Look { tag, address }, state) => {
+            let (server, state) = hand_back(look(register, memory, tag, address), state)?;
+            Ok((state, Answer::Seen(server)))
+        }
         (_, state) => Ok((state, Answer::NotTaken)),
     }
 }

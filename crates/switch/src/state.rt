@@ -1,5 +1,5 @@
 // The states of a switch. A state is moved from call to call: it can be neither copied nor let go, and only the calls make one.
-ghost use Rattle.std.specs.Prelude.{◌≡◌};
+ghost use Rattle.std.specs.Prelude.{◌≡◌, MatchResult};
 ghost use Rattle.switch.specs.declared.state.State.TheVariants as state;
 ghost use Rattle.switch.specs.States.{rests};
 
@@ -45,6 +45,16 @@ pub struct Refused<S> {
     pub why: Refusal,
 }
 
+// What a step of a call gave, and the state beside it; where the step refuses, the state goes back with the refusal.
+pub(crate) fn hand_back<T, S>(given: Result<T, Refusal>, state: S) -> Result<(T, S), Refused<S>>
+    ensures { MatchResult result (λ r. (given ≡ Ok r.0) × (r.1 ≡ state)) (λ e. (given ≡ Err e.why) × (e.state ≡ state)) }
+{
+    match given {
+        Ok(value) => Ok((value, state)),
+        Err(why) => Err(Refused { state, why }),
+    }
+}
+
 // A switch in one of its states: what a chain of calls leaves.
 pub enum State {
     Resting(Resting),
@@ -53,6 +63,7 @@ pub enum State {
 }
 
 // A refusal passes by `?` to a caller that goes on with whatever state it is handed.
+// Kept as three: one for every `S: Into<State>` overlaps with `impl<T> From<T> for T`, and a trait of its own takes three impls again.
 impl From<Refused<Resting>> for Refused<State> {
     ghost from_gives = { λ e r. r ≡ record { state = state.Resting e.state; why = e.why } };
 
@@ -94,17 +105,8 @@ pub fn retire(state: State) -> bool
     ensures { result ≡ rests state }
 {
     match state {
-        State::Resting(resting) => {
-            let Resting { width: _ } = resting;
-            true
-        }
-        State::Drafted(draft) => {
-            let Draft { forecast: _ } = draft;
-            false
-        }
-        State::Changing(changing) => {
-            let Changing { steps: _ } = changing;
-            false
-        }
+        State::Resting(Resting { width: _ }) => true,
+        State::Drafted(Draft { forecast: _ }) => false,
+        State::Changing(Changing { steps: _ }) => false,
     }
 }
