@@ -44,6 +44,7 @@ pub fn run<M: RuleMemory, E: Measure>(
 
 // Two switches at one width under one measure, each with its own calls and its own make of memory. Where both end outside a change, with equal
 // capacities, services and targets, they answer every look alike.
+// Kept with the parts of a side one by one: a register and a memory are lent each by itself at every call.
 pub fn run_two<M: RuleMemory, N: RuleMemory, E: Measure>(
     measure: &E,
     width: u32,
@@ -92,10 +93,9 @@ fn carry_on<M: RuleMemory, E: Measure>(
     ensures followed { (m : Model) → Kept (E.Measure.miss measure.now) m state (desk register.old) (view M.Reader.held_at M.Reader.size M.RuleMemory.limit memory.old) → Followed (E.Measure.miss measure.now) m calls.now (take (length calls.now) answers.new) result (desk register.new) (view M.Reader.held_at M.Reader.size M.RuleMemory.limit memory.new) }
     ensures behind { drop (length calls.now) answers.new ≡ drop (length calls.now) answers.old }
 {
+    // Kept as an index: a proof does not know what a loop over a `zip` with `iter_mut` has written.
     for (i, call) in calls.iter().enumerate() {
-        let (next, answer) = perform(state, *call, measure, register, memory);
-        state = next;
-        answers[i] = answer;
+        (state, answers[i]) = perform(state, *call, measure, register, memory);
     }
     state
 }

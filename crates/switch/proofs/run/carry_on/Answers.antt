@@ -13,11 +13,11 @@ loop-i-preserved g c =
     let room : c.loop-i.i < length c.loop-i.answers = omega arith in (
       omega arith,
       λ m h.
-          one_more miss c.args.calls.now c.loop-i.i _ c.perform-next.result.1
+          one_more miss c.args.calls.now c.loop-i.i _ c.perform.result.1
           (λ x. Kept miss x c.loop-i.state (desk c.loop-i.register) (view g.M.Reader.held_at g.M.Reader.size g.M.RuleMemory.limit c.loop-i.memory))
-          (λ x. Kept miss x c.perform-next.result.0 (desk c.perform-next.new.register) (view g.M.Reader.held_at g.M.Reader.size g.M.RuleMemory.limit c.perform-next.new.memory))
-          within (λ x k. let d = c.perform-next.ensures x k in (d.answered, d.kept)) c.loop-i.answers room m (inv.1 m h),
-      drop-set-lt (length c.args.calls.now) c.loop-i.answers c.loop-i.i c.perform-next.result.1 within ∙ inv.2,
+          (λ x. Kept miss x c.perform.result.0 (desk c.perform.new.register) (view g.M.Reader.held_at g.M.Reader.size g.M.RuleMemory.limit c.perform.new.memory))
+          within (λ x k. let d = c.perform.ensures x k in (d.answered, d.kept)) c.loop-i.answers room m (inv.1 m h),
+      drop-set-lt (length c.args.calls.now) c.loop-i.answers c.loop-i.i c.perform.result.1 within ∙ inv.2,
     )
 
 pub returns : goal.returns
