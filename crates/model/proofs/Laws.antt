@@ -2,7 +2,6 @@
 use Rattle.std.proofs.Common.{◌≡◌, ℕ, ◌+◌, ◌-◌, ◌/◌, ◌^◌, ◌<◌, ◌≤◌, Bool, true, false, cond, eqb, ltb, ◌⊎◌, ◌↔◌, List, ◌∷◌, map, length, get_or, take, drop, is_some, Some, None, Option, sym, refl, ap, ◌∙◌, subst, inl, inr, arith}
 use Rattle.std.proofs.lemmas.List.{get_or_past}
 use Rattle.std.proofs.lemmas.Bool.{both_ways, cases_lt, eqb-true, eqb-false, ltb-true, ltb-false}
-use Rattle.rules.specs.declared.refusal.Refusal.{Refusal}
 use Rattle.rules.specs.declared.refusal.Refusal.TheVariants.{StepsMismatch}
 use Rattle.rules.specs.declared.server.Server.{Server}
 use Rattle.rules.specs.Refusals.{first}
@@ -14,7 +13,7 @@ use Rattle.plan.specs.Measures.{Misses, Lawful}
 use Rattle.plan.specs.Plans.{worst_miss, plan_weights, rule_total}
 use Rattle.plan.specs.Rivals.{Best}
 use Rattle.model.specs.declared.answer.Answer.{Answer}
-use Rattle.model.specs.declared.answer.Answer.TheVariants.{Done, Seen, Refused}
+use Rattle.model.specs.declared.answer.Answer.TheVariants.{Done, Seen}
 use Rattle.model.specs.declared.call.Call.{Call}
 use Rattle.model.specs.declared.call.Call.TheVariants.{Step, Close, Look}
 use Rattle.model.specs.declared.order.Order.{Order}
@@ -142,15 +141,12 @@ during_law miss W R ts held size counted (changing o' left) p g h o x =
 
 -- ---- steps and closes
 
-refused_done : (why : Refusal) → Refused why ≡ Done → ⊥
-refused_done why e = let z : ◌≡◌ {A = ℕ} 0 1 = cc in omega arith
-
 step_iff : (left accepted named : ℕ) (b : Bool) → eqb left 0 ≡ b → accepted + left ≡ named → (unless (cond b (Some StepsMismatch) None) Done ≡ Done) ↔ (accepted < named)
-step_iff left accepted named true e h = ((λ q. absurd (refused_done StepsMismatch q)), (λ k. absurd (omega (arith, eqb-true left 0 e))))
+step_iff left accepted named true e h = ((λ q. cc), (λ k. absurd (omega (arith, eqb-true left 0 e))))
 step_iff left accepted named false e h = let n : left ≡ 0 → ⊥ = eqb-false left 0 e in ((λ q. omega (arith, n)), (λ k. refl))
 
 close_iff : (left accepted named : ℕ) (b : Bool) → ltb 0 left ≡ b → accepted + left ≡ named → (unless (cond b (Some StepsMismatch) None) Done ≡ Done) ↔ (accepted ≡ named)
-close_iff left accepted named true e h = ((λ q. absurd (refused_done StepsMismatch q)), (λ k. absurd (omega (arith, ltb-true 0 left e))))
+close_iff left accepted named true e h = ((λ q. cc), (λ k. absurd (omega (arith, ltb-true 0 left e))))
 close_iff left accepted named false e h = ((λ q. omega (arith, ltb-false 0 left e)), (λ k. refl))
 
 step_exactly : (miss : Misses) (m : Model) (ph : Phase) (p : Progress) (o : Order) → Tells miss m ph p → During ph o → (answer_in miss m ph Step ≡ Done) ↔ (p.accepted < p.named)
@@ -193,20 +189,16 @@ module _ (miss : Misses) (lawful : Lawful miss) (W R : ℕ) (low : 1 ≤ W) (hig
     outside = λ x. let m = model_after miss (made W R) calls in
         outside_law miss m.width m.capacity m.targets held size counted m.phase (going_to calls).sound holds x;
     during = λ o x. let m = model_after miss (made W R) calls in
-        subst (λ (ys : List Answer). Moving miss m o (progress calls ys).accepted held size) (sym said)
+        rw said
         (during_law miss m.width m.capacity m.targets held size counted m.phase (progress calls (model_answers miss (made W R) calls)) (going_to calls) holds o x);
     step = λ ks xs x last o d.
         let (g, h) = last_answer miss (made W R) calls answers ks Step xs x said last in
         let m = model_after miss (made W R) ks in
-        subst (λ (ys : List Answer). (x ≡ Done) ↔ ((progress ks ys).accepted < (progress ks ys).named)) (sym g)
-        (subst (λ (y : Answer). (y ≡ Done) ↔ ((progress ks (model_answers miss (made W R) ks)).accepted < (progress ks (model_answers miss (made W R) ks)).named)) (sym h)
-        (step_exactly miss m m.phase (progress ks (model_answers miss (made W R) ks)) o (going_to ks).tells d));
+        rw (g, h) (step_exactly miss m m.phase (progress ks (model_answers miss (made W R) ks)) o (going_to ks).tells d);
     close = λ ks xs x last o d.
         let (g, h) = last_answer miss (made W R) calls answers ks Close xs x said last in
         let m = model_after miss (made W R) ks in
-        subst (λ (ys : List Answer). (x ≡ Done) ↔ ((progress ks ys).accepted ≡ (progress ks ys).named)) (sym g)
-        (subst (λ (y : Answer). (y ≡ Done) ↔ ((progress ks (model_answers miss (made W R) ks)).accepted ≡ (progress ks (model_answers miss (made W R) ks)).named)) (sym h)
-        (close_exactly miss m m.phase (progress ks (model_answers miss (made W R) ks)) o (going_to ks).tells d));
+        rw (g, h) (close_exactly miss m m.phase (progress ks (model_answers miss (made W R) ks)) o (going_to ks).tells d);
   }
 
 -- Two switches.

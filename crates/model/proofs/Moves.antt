@@ -11,7 +11,7 @@ use Rattle.memory.proofs.Exact.{answer_is}
 use Rattle.model.specs.declared.write.Write.{Write}
 use Rattle.model.specs.declared.write.Write.TheVariants.{Remove, Put}
 use Rattle.model.specs.Changes.{lack_prefix, lack_rule, removed, put, remove, after_write, altered}
-use Rattle.model.proofs.Sets.{none_some, some_later, at_same, front_none, listed_behind, Apart, apart_front, apart_middle, only, listed_kept, kept_none, apart_kept, within_list, below_list}
+use Rattle.model.proofs.Sets.{some_later, at_same, front_none, listed_behind, Apart, apart_front, apart_middle, only, listed_kept, kept_none, apart_kept, within_list, below_list}
 
 -- ---- writes in a row
 
@@ -44,7 +44,7 @@ altered_puts h (r ∷ rs) a v l = altered_puts (after_write h (Put r)) rs a.1 v 
         → option_or o (cond b (Some r.server) (h v l)) ≡ option_or (cond b (Some r.server) o) (h v l)
     go None e true f = refl
     go None e false f = refl
-    go (Some s) e true f = absurd (none_some (at_same r.prefix v l (λ x y. listed rs x y ≡ None) f a.0) e)
+    go (Some s) e true f = cc (at_same r.prefix v l (λ x y. listed rs x y ≡ None) f a.0)
     go (Some s) e false f = refl
 
 -- ---- the points of a change
@@ -119,7 +119,7 @@ module _ (A B : List KeyRule) (apart_A : Apart A) (apart_B : Apart B) where
   in_removals xs v l h = go (is_some (listed xs v l)) (ap is_some (sym (altered_removes (listed A) xs v l)) ∙ h)
     where
       go : (b : Bool) → is_some (cond b None (listed A v l)) ≡ true → is_some (listed A v l) ≡ true
-      go true k = absurd (false≢true k)
+      go true k = cc
       go false k = k
 
   in_puts : (xs ys : List KeyRule) → put A B ≡ xs ++ ys → (v l : ℕ) → is_some (altered (listed A) (map remove (removed A B) ++ map Put xs) v l) ≡ true → is_some (listed B v l) ≡ true
@@ -177,14 +177,14 @@ module _ (A B : List KeyRule) (apart_A : Apart A) (apart_B : Apart B) where
     removed_there p back d = go here
       where
         no_puts : (ps : List KeyRule) → map Put ps ≡ Remove p ∷ back → ⊥
-        no_puts [] e = let z : ◌≡◌ {A = ℕ} 0 1 = cc in omega arith
-        no_puts (q ∷ qs) e = let z : ◌≡◌ {A = ℕ} 0 1 = cc in omega arith
+        no_puts [] e = cc
+        no_puts (q ∷ qs) e = cc
 
         its_prefix : {x : Prefix} {xs : List Write} → Remove x ∷ xs ≡ Remove p ∷ back → x ≡ p
         its_prefix e = cc
 
         found : (b : Bool) (o : Option Server) (s : Server) → only (λ s. not b) o ≡ Some s → is_some o ≡ true
-        found b None s e = absurd (none_some refl e)
+        found b None s e = cc
         found b (Some t) s e = refl
 
         -- what is removed stood there, and no earlier removal took it
@@ -219,18 +219,20 @@ module _ (A B : List KeyRule) (apart_A : Apart A) (apart_B : Apart B) where
         comes : (xs ys : List KeyRule) → put A B ≡ xs ++ (r ∷ ys) → (o : Option Server) → at (listed B) r.prefix ≡ o → is_some o ≡ true
         comes xs ys e (Some s) f = refl
         comes xs ys e None f =
-            absurd (none_some (kept_none (lack_rule A) B apart_B r.prefix.value r.prefix.length f)
-            (ap (λ (z : List KeyRule). at (listed z) r.prefix) e ∙ listed_behind xs r ys (apart_middle xs r ys (subst Apart e apart_put))))
+            cc (
+              kept_none (lack_rule A) B apart_B r.prefix.value r.prefix.length f,
+              ap (λ (z : List KeyRule). at (listed z) r.prefix) e ∙ listed_behind xs r ys (apart_middle xs r ys (subst Apart e apart_put)),
+            )
 
         room : (xs ys : List KeyRule) → put A B ≡ xs ++ ys → map Put ys ≡ Put r ∷ back → take k (moves A B) ≡ map remove (removed A B) ++ map Put xs → n < length B
-        room xs [] e g f = absurd (let z : ◌≡◌ {A = ℕ} 0 1 = cc in omega arith)
+        room xs [] e g f = cc
         room xs (y ∷ ys) e g f =
             below_list B apart_B so_far n all (λ v l s. in_puts xs (y ∷ ys) e v l (ap (λ (ws : List Write). is_some (altered (listed A) ws v l)) (sym f) ∙ s))
             r.prefix new (comes xs ys (e ∙ ap (λ (z : KeyRule). xs ++ (z ∷ ys)) (its_rule g)) (at (listed B) r.prefix) refl)
 
         no_removals : (ys : List KeyRule) → map remove ys ++ map Put (put A B) ≡ Put r ∷ back → (ys ≡ []) × (map Put (put A B) ≡ Put r ∷ back)
         no_removals [] e = (refl, e)
-        no_removals (y ∷ ys) e = absurd (let z : ◌≡◌ {A = ℕ} 0 1 = cc in omega arith)
+        no_removals (y ∷ ys) e = cc
 
         go : Here → n < length B
         go (putting xs ys e f g) = room xs ys e (sym g ∙ d) f

@@ -1,7 +1,7 @@
 -- The services that an order makes of the standing ones fit the switch as those did.
-use Rattle.std.proofs.Common.{◌≡◌, ℕ, zero, suc, ◌+◌, ◌^◌, ◌<◌, ◌≤◌, Bool, true, false, cond, not, ltb, List, [], ◌∷◌, length, set, replicate, Some, None, Option, sym, refl, ap, ◌∙◌, arith}
+use Rattle.std.proofs.Common.{◌≡◌, ℕ, zero, suc, ◌+◌, ◌^◌, ◌<◌, ◌≤◌, Bool, true, false, cond, not, ltb, List, [], ◌∷◌, length, set, replicate, Some, None, Option, refl, ap, ◌∙◌, arith}
 use Rattle.std.proofs.lemmas.List.{length-set}
-use Rattle.std.proofs.lemmas.Bool.{or_parts, or_from, ltb-false, not-false, false≢true}
+use Rattle.std.proofs.lemmas.Bool.{or_parts, or_from, ltb-false, not-false}
 use Rattle.rules.specs.declared.refusal.Refusal.{Refusal}
 use Rattle.rules.specs.Refusals.{first}
 use Rattle.plan.specs.Plans.{services, beyond}
@@ -13,7 +13,7 @@ use Rattle.model.specs.Sound.{Fitting}
 
 -- A ground that does not fit leaves it to those behind it.
 pub past : (b : Bool) (why : Refusal) (o : Option Refusal) → cond b (Some why) o ≡ None → (b ≡ false) × (o ≡ None)
-past true why o e = let z : ◌≡◌ {A = ℕ} 0 1 = cc in absurd (omega arith)
+past true why o e = cc
 past false why o e = (refl, e)
 
 -- ---- one service set
@@ -21,13 +21,13 @@ past false why o e = (refl, e)
 pub enter_services : (ts : List (Option ℕ)) (t c : ℕ) → t < length ts → registered ts t ≡ false → services (set ts t (Some c)) ≡ services ts + 1
 enter_services [] t c h e = absurd (omega arith)
 enter_services (None ∷ ts) zero c h e = omega arith
-enter_services (Some d ∷ ts) zero c h e = absurd (false≢true (sym e))
+enter_services (Some d ∷ ts) zero c h e = cc
 enter_services (None ∷ ts) (suc t) c h e = enter_services ts t c (omega arith) e
 enter_services (Some d ∷ ts) (suc t) c h e = omega (arith, enter_services ts t c (omega arith) e)
 
 pub reweigh_services : (ts : List (Option ℕ)) (t c : ℕ) → registered ts t ≡ true → services (set ts t (Some c)) ≡ services ts
-reweigh_services [] t c e = absurd (false≢true e)
-reweigh_services (None ∷ ts) zero c e = absurd (false≢true e)
+reweigh_services [] t c e = cc
+reweigh_services (None ∷ ts) zero c e = cc
 reweigh_services (Some d ∷ ts) zero c e = refl
 reweigh_services (None ∷ ts) (suc t) c e = reweigh_services ts t c e
 reweigh_services (Some d ∷ ts) (suc t) c e = ap (λ (n : ℕ). 1 + n) (reweigh_services ts t c e)

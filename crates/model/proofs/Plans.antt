@@ -40,7 +40,7 @@ module _ (miss : Misses) (lawful : Lawful miss) (W R : ℕ) (low : 1 ≤ W) (hig
   weight_at t d e = go (get_or ts t None) refl (sym (by_tag_at (λ c. nearest miss W c (need miss W c (worst_miss miss W R ts))) ts t) ∙ e)
     where
       go : (o : Option ℕ) → get_or ts t None ≡ o → on (λ c. nearest miss W c (need miss W c (worst_miss miss W R ts))) o ≡ Some d → d ≤ 2 ^ W
-      go None p q = let z : ◌≡◌ {A = ℕ} 0 1 = cc in absurd (omega arith)
+      go None p q = cc
       go (Some c) p q =
           let same : nearest miss W c (need miss W c (worst_miss miss W R ts)) ≡ d = cc in
           subst (λ (x : ℕ). x ≤ 2 ^ W) same (need_nearest miss lawful W low high c (worst_miss miss W R ts) (every_at (λ c. c ≤ 2 ^ W) ts t c targets p)).weight

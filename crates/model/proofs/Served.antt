@@ -3,7 +3,7 @@ use Rattle.std.proofs.Common.{◌≡◌, ℕ, zero, suc, ◌+◌, ◌-◌, ◌%�
 use native.Mathlib.Decide.{dec_le}
 use lib.Arith.{digits_div, digits_mod}
 use Rattle.std.specs.Option.{option_or}
-use Rattle.std.proofs.lemmas.Bool.{cond_both, cond-true, and_from, eq-eqb, false≢true}
+use Rattle.std.proofs.lemmas.Bool.{cond_both, cond-true, and_from, eq-eqb}
 use Rattle.rules.specs.declared.rule.Rule.{Rule}
 use Rattle.rules.specs.declared.server.Server.{Server}
 use Rattle.rules.specs.declared.server.Server.TheVariants.{One, Two}
@@ -28,7 +28,7 @@ down_some f l zero k e = let z : l ≡ 0 = omega arith in subst (λ (m : ℕ). i
 down_some f l (suc n) k e = go (dec_le l n) (λ j. down_some f l n j e)
   where
     here : (o p : Option Server) → is_some o ≡ true → is_some (option_or o p) ≡ true
-    here None p h = absurd (false≢true h)
+    here None p h = cc
     here (Some s) p h = refl
 
     go : Dec (l ≤ n) → (l ≤ n → is_some (down_from n f) ≡ true) → is_some (option_or (f (suc n)) (down_from n f)) ≡ true
@@ -60,5 +60,5 @@ unfolding rules_of
 whole_held W ds h t k e = ap is_some (keys_at W ds h t (key W t 0) (32 - W) (digits_div t (pow_pos W)) k) ∙ go (get_or ds t None) e
   where
     go : (o : Option ℕ) → is_some o ≡ true → is_some (listed (map (keyed W t) (table_of W o)) (key W t 0) (32 - W)) ≡ true
-    go None f = absurd (false≢true f)
+    go None f = cc
     go (Some d) f = table_whole W t d

@@ -16,10 +16,6 @@ use Rattle.memory.specs.Prefixes.{listed_among}
 use Rattle.memory.proofs.Counting.{counted_less, same_self}
 use Rattle.memory.proofs.Exact.{length_prefixes}
 
--- An answer is not both none and some.
-pub none_some : {o : Option Server} {s : Server} → o ≡ None → o ≡ Some s → ⊥
-none_some p q = false≢true (ap is_some (sym p ∙ q))
-
 -- An answer or else one that is some is some.
 pub some_later : (o p : Option Server) → is_some p ≡ true → is_some (option_or o p) ≡ true
 some_later None p h = h
@@ -27,7 +23,7 @@ some_later (Some s) p h = refl
 
 -- what is some is some server
 some_server : (o : Option Server) → is_some o ≡ true → (s : Server) × (o ≡ Some s)
-some_server None h = absurd (false≢true h)
+some_server None h = cc
 some_server (Some s) h = (s, refl)
 
 -- What holds at a prefix holds at each value and length that are the same prefix.
@@ -59,7 +55,7 @@ front_none xs ys v l h = go (listed xs v l) (sym (listed_append xs ys v l) ∙ h
   where
     go : (o : Option Server) → option_or o (listed ys v l) ≡ None → o ≡ None
     go None e = refl
-    go (Some s) e = absurd (none_some e refl)
+    go (Some s) e = cc
 
 -- A rule behind rules that lack its prefix is found there.
 pub listed_behind : (xs : List KeyRule) (y : KeyRule) (ys : List KeyRule) → at (listed xs) y.prefix ≡ None → at (listed (xs ++ (y ∷ ys))) y.prefix ≡ Some y.server
@@ -102,7 +98,7 @@ apart_middle (x ∷ xs) y ys a = go (apart_middle xs y ys a.1) (same_prefix x.pr
     go : at (listed xs) y.prefix ≡ None → (b : Bool) → same_prefix x.prefix y.prefix.value y.prefix.length ≡ b
         → cond b (Some x.server) (at (listed xs) y.prefix) ≡ None
     go ih true e =
-        absurd (none_some (at_same x.prefix y.prefix.value y.prefix.length (λ v l. listed (xs ++ (y ∷ ys)) v l ≡ None) e a.0) (listed_behind xs y ys ih))
+        cc (at_same x.prefix y.prefix.value y.prefix.length (λ v l. listed (xs ++ (y ∷ ys)) v l ≡ None) e a.0, listed_behind xs y ys ih)
     go ih false e = ih
 
 -- ---- filters
