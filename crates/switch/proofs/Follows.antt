@@ -128,9 +128,6 @@ module _ (miss : Misses) (W R : ℕ) (ts : List (Option ℕ)) (o : Order) (left 
       let formed_all = writes_formed W A B (plan_A miss W R ts o left u.sound).in_range (plan_B miss W R ts o left u.sound).in_range u.sound.high in
       (w, e, f, g, (subst (λ (ws : List Write). AllByRecursion (λ x. Formed x) ws) f (All-drop (λ x. Formed x) k all formed_all)).0)
 
-  abbrev write_next : Option Write
-  write_next = cond (eqb left 0) None (write_at all k)
-
   refusal_is : ∥ Counted v.held v.size ∥₁ → (z : Bool) → eqb left 0 ≡ z → write_refusal v (cond z None (write_at all k)) ≡ cond z (Some StepsMismatch) None
   refusal_is counted true e = refl
   refusal_is counted false e =

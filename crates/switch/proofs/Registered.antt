@@ -1,5 +1,5 @@
 -- What a register's own invariant says of its numbers.
-use Rattle.std.proofs.Common.{◌≡◌, ℕ, ◌^◌, true, false, is_some, Some, None, Option, sym, refl, ap, ◌∙◌, arith}
+use Rattle.std.proofs.Common.{◌≡◌, ◌^◌, true, false, is_some, Some, None, Option, sym, refl, ap, ◌∙◌}
 use Rattle.std.proofs.lemmas.Bool.{and_parts, not-true}
 use Rattle.rules.specs.declared.refusal.Refusal.{Refusal}
 use Rattle.plan.specs.Plans.{beyond}
@@ -15,7 +15,7 @@ fits r = record { long = r.targets_long; fit = r.targets_fit; room = r.room }
 
 none_is : (o : Option Refusal) → is_some o ≡ false → o ≡ None
 none_is None e = refl
-none_is (Some x) e = let z : ◌≡◌ {A = ℕ} 0 1 = cc in absurd (omega arith)
+none_is (Some x) e = cc
 
 -- The coming services of a change fit, and so do its weights.
 pub record Comes (r : Register) (c : Change) : Type 0 where

@@ -1,6 +1,6 @@
 -- A chain of calls, one call after the other, and where it starts.
 use Rattle.std.proofs.Common.{◌≡◌, ℕ, ◌+◌, ◌<◌, ◌≤◌, ltb, List, [], ◌∷◌, ◌++◌, length, get_or, take, set, replicate, is_some, Some, None, Ok, Err, Option, Result, sym, refl, ap, ◌∙◌, subst, arith}
-use Rattle.std.proofs.lemmas.List.{take_more, take_more_set, take_all}
+use Rattle.std.proofs.lemmas.List.{take_more, take_more_set}
 use Rattle.std.proofs.lemmas.Bool.{ltb-false, or_parts, false≢true}
 use Rattle.rules.specs.declared.refusal.Refusal.{Refusal}
 use Rattle.rules.specs.declared.refusal.Refusal.TheVariants.{WidthOutOfRange, MemoryNotEmpty}
@@ -45,15 +45,6 @@ module _ (miss : Misses) (calls : List Call) (i : ℕ) (d : Call) (a : Answer) (
             ∙ sym (answers_snoc miss m (take i calls) (get_or calls i d)) ∙ ap (model_answers miss m) (sym longer),
       )
 
--- All calls are made.
-pub ended : (miss : Misses) (calls : List Call) (answers : List Answer) (i : ℕ) (L : Model → Type 0) (m : Model) → length calls ≤ i → i ≤ length calls
-    → L (model_after miss m (take i calls)) × (take i answers ≡ model_answers miss m (take i calls))
-    → L (model_after miss m calls) × (take (length calls) answers ≡ model_answers miss m calls)
-ended miss calls answers i L m ends within (kept, said) =
-    let all : take i calls ≡ calls = take_all i calls ends in
-    let n : length calls ≡ i = omega arith in
-    (subst L (ap (model_after miss m) all) kept, ap (λ (k : ℕ). take k answers) n ∙ said ∙ ap (model_answers miss m) all)
-
 -- ---- the start
 
 -- What an accepted making has seen: a width in range and no rule.
@@ -92,10 +83,10 @@ start_kept miss W R lawful low high d v resting e limit none counted = record {
 
 -- ---- two runs
 
-pub end_alike : (miss : Misses) (W : ℕ) (calls calls₂ : List Call) (xs xs' ys ys' : List Answer) (d d' e e' : Desk) (v v' w w' : View) (r r₂ : Result State Refusal)
+pub end_alike : (miss : Misses) (W : ℕ) (calls calls₂ : List Call) {xs xs' ys : List Answer} (ys' : List Answer) {d d' e e' : Desk} (v : View) {v' w : View} (w' : View) (r r₂ : Result State Refusal)
     → Ran miss W calls xs xs' d d' v v' r → Ran miss W calls₂ ys ys' e e' w w' r₂ → EndAlike miss W calls v v' calls₂ w w' r r₂
-end_alike miss W calls calls₂ xs xs' ys ys' d d' e e' v v' w w' (Err x) r₂ a b = tt
-end_alike miss W calls calls₂ xs xs' ys ys' d d' e e' v v' w w' (Ok x) (Err y) a b = tt
-end_alike miss W calls calls₂ xs xs' ys ys' d d' e e' v v' w w' (Ok x) (Ok y) a b = λ same.
-    alike miss W v.limit calls calls₂ (take (length calls) xs') (take (length calls₂) ys') v'.held w'.held v'.size w'.size a.law
-    (subst (λ (R : ℕ). Law miss W R calls₂ (take (length calls₂) ys') w'.held w'.size) (sym same) b.law)
+end_alike miss W calls calls₂ ys' v w' (Err x) r₂ a b = tt
+end_alike miss W calls calls₂ ys' v w' (Ok x) (Err y) a b = tt
+end_alike miss W calls calls₂ ys' v w' (Ok x) (Ok y) a b = λ same.
+    let law : Law miss W v.limit calls₂ (take (length calls₂) ys') w'.held w'.size = rw same b.law in
+    alike miss W v.limit calls calls₂ _ _ _ _ _ _ a.law law

@@ -2,7 +2,7 @@ use Rattle.std.proofs.Common.{◌<◌, length, ◌∙◌, arith}
 use Rattle.std.proofs.lemmas.List.{drop-set-lt}
 use Rattle.switch.specs.Desks.{desk, view}
 use Rattle.switch.specs.Kept.{Kept}
-use Rattle.switch.proofs.Running.{one_more, ended}
+use Rattle.switch.proofs.Running.{one_more}
 use Rattle.switch.proofs.run.carry_on.Goals as goal
 
 pub loop-i-preserved : goal.loop-i-preserved
@@ -19,15 +19,3 @@ loop-i-preserved g c =
           within (λ x k. let d = c.perform.ensures x k in (d.answered, d.kept)) c.loop-i.answers room m (inv.1 m h),
       drop-set-lt (length c.args.calls.now) c.loop-i.answers c.loop-i.i c.perform.result.1 within ∙ inv.2,
     )
-
-pub returns : goal.returns
-returns g c =
-    let miss = g.E.Measure.miss c.args.measure.now in
-    record {
-      followed = λ m h.
-          let (k, a) = ended miss c.args.calls.now c.loop-i.answers c.loop-i.i
-          (λ x. Kept miss x c.loop-i.state (desk c.loop-i.register) (view g.M.Reader.held_at g.M.Reader.size g.M.RuleMemory.limit c.loop-i.memory)) m
-          c.loop-i-test.false c.loop-i.invariant.0 (c.loop-i.invariant.1 m h) in
-          record { answers_are = a; kept = k };
-      behind = c.loop-i.invariant.2;
-    }
