@@ -74,26 +74,19 @@ module _ (miss : Misses) where
     going_on : (ph : Phase) (k : Call) (s : Progress) → Going miss (model W R ts ph) s
         → Going miss (next_in miss (model W R ts ph) ph k) (progress_by s k (answer_in miss (model W R ts ph) ph k))
     going_on at_rest (Place o) s h = going_place s o (first (order_grounds W R ts o)) refl h
-    going_on at_rest Accept s h = h
-    going_on at_rest Discard s h = h
-    going_on at_rest Step s h = h
-    going_on at_rest Close s h = h
     going_on at_rest (Look t a) s h = going_look (model W R ts at_rest) s t a _ _ h
-    going_on (drafted o) (Place o') s h = h
+    going_on at_rest _ s h = h
     going_on (drafted o) Accept s h = record {
       sound = at_phase W R ts (drafted o) (changing o (length (order_steps miss (model W R ts (drafted o)) o))) h.sound (h.sound.phase, omega arith);
       tells = (h.tells.0, omega (arith, h.tells.0, h.tells.1));
     }
     going_on (drafted o) Discard s h = record { sound = at_phase W R ts (drafted o) at_rest h.sound tt; tells = tt }
-    going_on (drafted o) Step s h = h
-    going_on (drafted o) Close s h = h
     going_on (drafted o) (Look t a) s h = going_look (model W R ts (drafted o)) s t a _ _ h
-    going_on (changing o left) (Place o') s h = h
-    going_on (changing o left) Accept s h = h
-    going_on (changing o left) Discard s h = h
+    going_on (drafted o) _ s h = h
     going_on (changing o left) Step s h = going_step o left s (eqb left 0) refl h
     going_on (changing o left) Close s h = going_close o left s (ltb 0 left) h
     going_on (changing o left) (Look t a) s h = going_look (model W R ts (changing o left)) s t a _ _ h
+    going_on (changing o left) _ s h = h
 
   pub going_after : (m : Model) (ks : List Call) (s : Progress) → Going miss m s → Going miss (model_after miss m ks) (progress_from s ks (model_answers miss m ks))
   going_after m [] s h = h
@@ -127,23 +120,12 @@ module _ (miss : Misses) where
   next_stay : (m : Model) (ph : Phase) (k : Call) → Stay m (next_in miss m ph k)
   unfolding Stay
   next_stay m at_rest (Place o) = kept_stay (first (order_grounds m.width m.capacity m.targets o)) m _ (refl, refl)
-  next_stay m at_rest Accept = (refl, refl)
-  next_stay m at_rest Discard = (refl, refl)
-  next_stay m at_rest Step = (refl, refl)
-  next_stay m at_rest Close = (refl, refl)
-  next_stay m at_rest (Look t a) = (refl, refl)
-  next_stay m (drafted o) (Place o') = (refl, refl)
+  next_stay m at_rest _ = (refl, refl)
   next_stay m (drafted o) Accept = (refl, refl)
-  next_stay m (drafted o) Discard = (refl, refl)
-  next_stay m (drafted o) Step = (refl, refl)
-  next_stay m (drafted o) Close = (refl, refl)
-  next_stay m (drafted o) (Look t a) = (refl, refl)
-  next_stay m (changing o left) (Place o') = (refl, refl)
-  next_stay m (changing o left) Accept = (refl, refl)
-  next_stay m (changing o left) Discard = (refl, refl)
+  next_stay m (drafted o) _ = (refl, refl)
   next_stay m (changing o left) Step = kept_stay (first (step_grounds left)) m _ (refl, refl)
   next_stay m (changing o left) Close = kept_stay (first (close_grounds left)) m _ (refl, refl)
-  next_stay m (changing o left) (Look t a) = (refl, refl)
+  next_stay m (changing o left) _ = (refl, refl)
 
   pub after_width : (m : Model) (ks : List Call) → (model_after miss m ks).width ≡ m.width
   unfolding Stay
