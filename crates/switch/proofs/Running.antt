@@ -1,5 +1,5 @@
 -- A chain of calls, one call after the other, and where it starts.
-use Rattle.std.proofs.Common.{◌≡◌, ℕ, ◌+◌, ◌<◌, ◌≤◌, ltb, List, [], ◌∷◌, ◌++◌, length, get_or, take, set, replicate, is_some, Some, None, Ok, Err, Option, Result, sym, refl, ap, ◌∙◌, subst, arith}
+use Rattle.std.proofs.Common.{◌≡◌, ℕ, ◌+◌, ◌<◌, ◌≤◌, ltb, List, [], ◌∷◌, ◌++◌, length, get_or, take, set, replicate, is_some, Some, None, Ok, Err, Option, Result, sym, refl, ap, ◌∙◌, ap₂, arith}
 use Rattle.std.proofs.lemmas.List.{take_more, take_more_set}
 use Rattle.std.proofs.lemmas.Bool.{ltb-false, or_parts, false≢true}
 use Rattle.rules.specs.declared.refusal.Refusal.{Refusal}
@@ -16,7 +16,7 @@ use Rattle.model.specs.declared.call.Call.{Call}
 use Rattle.model.specs.Grounds.{making_grounds}
 use Rattle.model.specs.Keyed.{key_rules}
 use Rattle.model.specs.Laws.{Law}
-use Rattle.model.specs.Models.{Model, made, model_answer, model_next, model_after, model_answers}
+use Rattle.model.specs.Models.{Model, made, model_after, model_answers}
 use Rattle.model.proofs.Changing.{no_rules}
 use Rattle.model.proofs.Laws.{alike}
 use Rattle.model.proofs.Models.{after_snoc, answers_snoc, made_going}
@@ -27,23 +27,22 @@ use Rattle.switch.specs.declared.state.State.{State}
 use Rattle.switch.specs.declared.state.State.TheVariants as state
 use Rattle.switch.specs.Calls.{fresh}
 use Rattle.switch.specs.Desks.{Desk, View}
-use Rattle.switch.specs.Kept.{Kept}
+use Rattle.switch.specs.Kept.{Kept, Carries, Followed}
 use Rattle.switch.specs.Runs.{Ran, EndAlike}
 
 -- ---- one call more
 
-module _ (miss : Misses) (calls : List Call) (i : ℕ) (d : Call) (a : Answer) (L N : Model → Type 0) (within : i < length calls)
-    (does : (m : Model) → L m → (a ≡ model_answer miss m (get_or calls i d)) × N (model_next miss m (get_or calls i d))) where
-  pub one_more : (answers : List Answer) → i < length answers → (m : Model) → L (model_after miss m (take i calls)) × (take i answers ≡ model_answers miss m (take i calls))
-      → N (model_after miss m (take (i + 1) calls)) × (take (i + 1) (set answers i a) ≡ model_answers miss m (take (i + 1) calls))
-  one_more answers room m (kept, said) =
-      let here = does (model_after miss m (take i calls)) kept in
-      let longer : take (i + 1) calls ≡ take i calls ++ (get_or calls i d ∷ []) = take_more calls i d within in (
-        subst N (sym (after_snoc miss m (take i calls) (get_or calls i d)) ∙ ap (model_after miss m) (sym longer)) here.1,
-        take_more_set answers i a room ∙ ap (λ (r : List Answer). r ++ (a ∷ [])) said
-            ∙ ap (λ (x : Answer). model_answers miss m (take i calls) ++ (x ∷ [])) here.0
-            ∙ sym (answers_snoc miss m (take i calls) (get_or calls i d)) ∙ ap (model_answers miss m) (sym longer),
-      )
+pub one_more : (miss : Misses) (calls : List Call) (i : ℕ) (call : Call) → i < length calls → (m : Model) (answers : List Answer) (a : Answer) → i < length answers
+    → {s s' : State} {d d' : Desk} {v v' : View} → Followed miss m (take i calls) (take i answers) s d v → Carries miss (get_or calls i call) s d v a s' d' v'
+    → Followed miss m (take (i + 1) calls) (take (i + 1) (set answers i a)) s' d' v'
+one_more miss calls i call within m answers a room f carries =
+    let here = carries (model_after miss m (take i calls)) f.kept in
+    let longer : take (i + 1) calls ≡ take i calls ++ (get_or calls i call ∷ []) = take_more calls i call within in
+    record {
+      answers_are = take_more_set answers i a room ∙ ap₂ (λ (xs : List Answer) (x : Answer). xs ++ (x ∷ [])) f.answers_are here.answered
+          ∙ sym (answers_snoc miss m (take i calls) (get_or calls i call)) ∙ ap (model_answers miss m) (sym longer);
+      kept = rw (longer, after_snoc) here.kept;
+    }
 
 -- ---- the start
 

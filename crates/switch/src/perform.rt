@@ -17,6 +17,7 @@ use model::answer::Answer;
 use model::call::Call;
 use plan::measure::Measure;
 
+// Kept with measure, register and memory apart: each is lent by itself at every call.
 pub(crate) fn perform<M: RuleMemory, E: Measure>(
     state: State,
     call: Call,
