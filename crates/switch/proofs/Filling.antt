@@ -1,7 +1,7 @@
 -- A text that is written into a buffer part by part, each part behind those already there.
-use Rattle.std.proofs.Common.{◌≡◌, ℕ, ◌+◌, ◌-◌, ◌<◌, ◌≤◌, List, [], ◌∷◌, ◌++◌, length, get_or, take, drop, set, sym, refl, ap, ◌∙◌, append_assoc, arith}
+use Rattle.std.proofs.Common.{◌≡◌, ℕ, ◌+◌, ◌-◌, ◌<◌, ◌≤◌, List, [], ◌∷◌, ◌++◌, length, take, drop, sym, refl, ap, ◌∙◌, append_assoc, arith}
 use borrow.Rule.Slice.PartMut.{put_mid}
-use Rattle.std.proofs.lemmas.List.{append-nil, length-append, length-drop, length_push, length-take-le, take-append-drop, take_at, take_all, take_rest, drop_at, drop_all, drop-drop, drop_more, set_at}
+use Rattle.std.proofs.lemmas.List.{append-nil, length-append, length-drop, length-take-le, take-append-drop, take_at, take_all, take_rest, drop_at, drop_all, drop-drop}
 use Rattle.switch.specs.Listings.{over, behind}
 
 -- ---- a part of a buffer that is lent
@@ -76,18 +76,6 @@ pub filled_all : (text o out : List ℕ) (used : ℕ) → Filled text o used [] 
 filled_all text o out used f =
     f.bytes ∙ ap (λ (n : ℕ). take n text ++ drop n o) (used_all text o out used f)
     ∙ ap (λ (w : List ℕ). w ++ drop (length text) o) (take_all (length text) text (omega arith))
-
--- ---- one byte more
-
-put_one : (xs o : List ℕ) (d : ℕ) → length xs < length o → set (over xs o) (length xs) d ≡ over (xs ++ d ∷ []) o
-put_one xs o d h =
-    ap (λ (t : List ℕ). set (xs ++ t) (length xs) d) (drop_more o (length xs) 0 h)
-    ∙ set_at xs (get_or o (length xs) 0) (drop (length xs + 1) o) d (length xs) refl
-    ∙ sym (append_assoc xs (d ∷ []) (drop (length xs + 1) o))
-    ∙ ap (λ (k : ℕ). (xs ++ d ∷ []) ++ drop k o) (sym (length_push xs d))
-
-pub next_byte : (xs o out : List ℕ) (k d : ℕ) → out ≡ over xs o → k ≡ length xs → length xs < length o → set out k d ≡ over (xs ++ d ∷ []) o
-next_byte xs o out k d e u h = ap (λ (w : List ℕ). set w k d) e ∙ ap (λ (j : ℕ). set (over xs o) j d) u ∙ put_one xs o d h
 
 -- ---- a turn of a loop that lends the free rest of the buffer to the writer of the next part
 

@@ -10,7 +10,6 @@ use Rattle.model.specs.Keyed.{keyed}
 use Rattle.plan.specs.ByTag.{Every}
 use Rattle.plan.specs.Plans.{beyond}
 use Rattle.plan.proofs.ByTags.{none_above}
-use Rattle.switch.specs.Seeking.{Fit}
 
 -- a tag of 6 bits and an address of at most 24 fit the 32 bits of a key
 pub tag_room : (W t m : ℕ) → W ≤ 24 → t < 64 → m ≡ 2 ^ W → t * m ≤ 63 * 2 ^ 24
@@ -27,15 +26,15 @@ start_room W r h f = let p : 2 ^ W ≤ 2 ^ 24 = pow_mono h in grind (arith, nat_
 pub fit_behind : (W : ℕ) (rs more : List Rule) (r : Rule) → rs ≡ r ∷ more → all_fit W rs ≡ true → all_fit W more ≡ true
 fit_behind W rs more r e h = let k : all_fit W (r ∷ more) ≡ true = sym (ap (all_fit W) e) ∙ h in grind (arith, nat_tests)
 
-weight_at : (W : ℕ) (ds : List (Option ℕ)) (i : ℕ) → Every (λ d. d ≤ 2 ^ W) ds → Fit W (get_or ds i None)
-weight_at W [] i h = tt
-weight_at W (None ∷ ds) zero h = tt
-weight_at W (Some d ∷ ds) zero (h, hs) = h
-weight_at W (None ∷ ds) (suc i) h = weight_at W ds i h
-weight_at W (Some d ∷ ds) (suc i) (h, hs) = weight_at W ds i hs
+weight_at : (W : ℕ) (ds : List (Option ℕ)) (i d : ℕ) → Every (λ d. d ≤ 2 ^ W) ds → get_or ds i None ≡ Some d → d ≤ 2 ^ W
+weight_at W [] i d h e = absurd (let z : ◌≡◌ {A = ℕ} 0 1 = cc in omega arith)
+weight_at W (None ∷ ds) zero d h e = absurd (let z : ◌≡◌ {A = ℕ} 0 1 = cc in omega arith)
+weight_at W (Some x ∷ ds) zero d (h, hs) e = let z : x ≡ d = cc in omega arith
+weight_at W (None ∷ ds) (suc i) d h e = weight_at W ds i d h e
+weight_at W (Some x ∷ ds) (suc i) d (h, hs) e = weight_at W ds i d hs e
 
-pub fit_at : (W : ℕ) (ds : List (Option ℕ)) (i : ℕ) → beyond (2 ^ W) ds ≡ false → Fit W (get_or ds i None)
-fit_at W ds i h = weight_at W ds i (none_above (2 ^ W) ds h)
+pub fit_at : (W : ℕ) (ds : List (Option ℕ)) (i d : ℕ) → beyond (2 ^ W) ds ≡ false → get_or ds i None ≡ Some d → d ≤ 2 ^ W
+fit_at W ds i d h e = weight_at W ds i d (none_above (2 ^ W) ds h) e
 
 -- ---- a prefix sought in a table
 

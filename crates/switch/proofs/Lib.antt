@@ -8,6 +8,5 @@ pub mod Passes
 pub mod Reading
 pub mod Registered
 pub mod Running
-pub mod Seeks
-pub mod Spelling
+pub mod Walking
 pub mod Writes

@@ -1,8 +1,9 @@
--- The lines of a listing, tag by tag and rule by rule.
-use Rattle.std.proofs.Common.{◌≡◌, ℕ, suc, ◌+◌, ◌-◌, ◌^◌, ◌<◌, ◌≤◌, List, [], ◌∷◌, ◌++◌, map, length, get_or, take, drop, Some, None, Option, sym, refl, ap, ◌∙◌, ap₂, append_assoc, arith}
+-- The lines of a listing, rule by rule.
+use Rattle.std.proofs.Common.{◌≡◌, ℕ, ◌+◌, ◌-◌, ◌*◌, ◌^◌, ◌<◌, ◌≤◌, false, List, [], ◌∷◌, ◌++◌, map, length, take, drop, Some, None, Option, slice_index_or, sym, refl, ap, ◌∙◌, ap₂, append_assoc, arith}
 use borrow.Rule.Slice.PartMut.{put_mid}
 use Rattle.std.specs.List.{flat_map}
-use Rattle.std.proofs.lemmas.List.{length-append, take_at, drop_at, drop-drop}
+use Rattle.std.proofs.lemmas.List.{map-append, length-append, length-map, take_at, drop_at, drop-drop}
+use Rattle.std.proofs.lemmas.List.Folds.{flat_map-map}
 use Rattle.std.proofs.lemmas.Bool.Decides.{nat_tests}
 use Rattle.rules.specs.declared.refusal.Refusal.TheVariants.{BufferTooShort}
 use Rattle.rules.specs.declared.rule.Rule.{Rule}
@@ -10,59 +11,43 @@ use Rattle.rules.specs.Refusals.{first}
 use Rattle.rules.specs.Tables.{table}
 use Rattle.rules.proofs.Fewness.{L_most}
 use Rattle.rules.proofs.Tables.{table_laws}
+use Rattle.plan.specs.Plans.{beyond}
 use Rattle.model.specs.Keyed.{from, tags, table_of}
+use Rattle.switch.specs.declared.tables.TaggedRule.{TaggedRule}
 use Rattle.switch.specs.Listings.{Standing, under, standing_of, standing, line, lines, trailer, text_of, listing, over, list_grounds}
+use Rattle.switch.specs.Tabled.{tagged, tagged_of, tagged_rules}
 use Rattle.switch.proofs.Filling.{lent}
+use Rattle.switch.proofs.Keying.{fit_at}
 
-pub joined_append : {X A : Type 0} (f : X → List A) (xs ys : List X) → flat_map f (xs ++ ys) ≡ flat_map f xs ++ flat_map f ys
-joined_append f [] ys = refl
-joined_append f (x ∷ xs) ys = ap (λ w. f x ++ w) (joined_append f xs ys) ∙ sym (append_assoc (f x) (flat_map f xs) (flat_map f ys))
+-- ---- the rules of a listing, and the lines of some
 
--- no table has more than 13 rules
-pub table_few : (W d : ℕ) → W ≤ 24 → d ≤ 2 ^ W → length (table W d) ≤ 13
-table_few W d w h = omega (arith, (table_laws W d h).long, L_most W d w h)
+abbrev pub as_standing : TaggedRule → Standing
+as_standing r = under r.tag r.rule
 
--- ---- one tag after the other
+abbrev pub lines_of : List TaggedRule → List ℕ
+lines_of rs = flat_map (λ r. line (as_standing r)) rs
 
 module _ (W : ℕ) (ds : List (Option ℕ)) where
-  -- the rules of the tags from i on
-  pub from_tag : ℕ → List Standing
-  from_tag i = flat_map (standing_of W ds) (from (64 - i) i)
+  under_tag : (t : ℕ) (rs : List Rule) → map as_standing (map (tagged W t) rs) ≡ map (under t) rs
+  under_tag t [] = refl
+  under_tag t (r ∷ rs) = ap (λ (ss : List Standing). under t r ∷ ss) (under_tag t rs)
 
-  -- those of the tag i alone
-  abbrev pub of_tag : ℕ → List Standing
-  of_tag i = map (under i) (table_of W (get_or ds i None))
+  of_tags : (ts : List ℕ) → map as_standing (flat_map (tagged_of W ds) ts) ≡ flat_map (standing_of W ds) ts
+  unfolding tagged_of standing_of
+  of_tags [] = refl
+  of_tags (t ∷ ts) =
+      map-append as_standing (tagged_of W ds t) (flat_map (tagged_of W ds) ts)
+      ∙ ap₂ (λ (xs ys : List Standing). xs ++ ys) (under_tag t (table_of W (slice_index_or ds t None))) (of_tags ts)
 
-  pub all_tags : from_tag 0 ≡ standing W ds
-  unfolding from_tag standing tags
-  all_tags = refl
+  standing_is : map as_standing (tagged_rules W ds) ≡ standing W ds
+  unfolding tagged_rules standing
+  standing_is = of_tags tags
 
-  pub tag_more : (i : ℕ) → i < 64 → from_tag i ≡ of_tag i ++ from_tag (i + 1)
-  unfolding from_tag standing_of from
-  tag_more i h =
-      let n : 64 - i ≡ suc (64 - (i + 1)) = omega arith in
-      let s : suc i ≡ i + 1 = omega arith in
-      ap (λ (m : ℕ). flat_map (standing_of W ds) (from m i)) n
-      ∙ ap (λ (j : ℕ). standing_of W ds i ++ flat_map (standing_of W ds) (from (64 - (i + 1)) j)) s
+  pub lines_are : lines_of (tagged_rules W ds) ≡ lines (standing W ds)
+  lines_are = sym (flat_map-map line as_standing (tagged_rules W ds)) ∙ ap lines standing_is
 
-  pub tag_none : (i : ℕ) → 64 ≤ i → from_tag i ≡ []
-  unfolding from_tag from
-  tag_none i h = let n : 64 - i ≡ 0 = omega arith in ap (λ (m : ℕ). flat_map (standing_of W ds) (from m i)) n
-
-  -- in lines
-  pub lines_all : lines (from_tag 0) ≡ lines (standing W ds)
-  lines_all = ap lines all_tags
-
-  pub lines_more : (i : ℕ) → i < 64 → lines (from_tag i) ≡ lines (of_tag i) ++ lines (from_tag (i + 1))
-  lines_more i h = ap lines (tag_more i h) ∙ joined_append line (of_tag i) (from_tag (i + 1))
-
-  pub lines_none : (i : ℕ) → 64 ≤ i → lines (from_tag i) ≡ []
-  lines_none i h = ap lines (tag_none i h)
-
--- ---- one rule after the other
-
-pub rule_more : (t : ℕ) (rs more : List Rule) (r : Rule) → rs ≡ r ∷ more → lines (map (under t) rs) ≡ line (under t r) ++ lines (map (under t) more)
-rule_more t rs more r e = ap (λ (xs : List Rule). lines (map (under t) xs)) e
+  pub count_is : length (tagged_rules W ds) ≡ length (standing W ds)
+  count_is = sym (length-map (tagged_rules W ds) as_standing) ∙ ap length standing_is
 
 -- ---- the whole text
 

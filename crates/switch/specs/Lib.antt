@@ -8,3 +8,5 @@ pub mod Prospects
 pub mod Runs
 pub mod Seeking
 pub mod States
+pub mod Tabled
+pub mod Walked

@@ -4,7 +4,6 @@
 pub mod accepting;
 mod change;
 pub mod closing;
-mod decimals;
 pub mod listing;
 pub mod looking;
 pub mod making;
@@ -16,3 +15,5 @@ pub mod run;
 pub mod state;
 pub mod stepping;
 mod steps;
+mod tables;
+mod tagged_rules;

@@ -10,6 +10,7 @@ ghost use Rattle.switch.specs.Prospects.{tag_grounds, service_grounds, admit_gro
 
 use crate::register::Register;
 use crate::steps::count_writes;
+use crate::tables::Tables;
 use model::answer::Forecast;
 use model::order::Order;
 use plan::measure::Measure;
@@ -38,7 +39,8 @@ pub(crate) fn foresee<E: Measure>(
     admit(register, order)?;
     let targets = apply(register.targets, order);
     let planned = plan(measure, register.width.bits(), register.capacity, &targets)?;
-    let steps = count_writes(register.width, &register.weights, &planned.weights);
+    let coming = Tables::new(register.width, &planned.weights);
+    let steps = count_writes(register.standing(), coming);
     let forecast = Forecast {
         order,
         worst: planned.worst,

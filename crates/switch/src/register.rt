@@ -4,6 +4,7 @@ ghost use Rattle.plan.specs.Plans.{services, beyond};
 ghost use Rattle.switch.specs.Changes.{change_fits};
 
 use crate::change::Change;
+use crate::tables::Tables;
 use rules::width::Width;
 
 // The width, the capacity of the rule memory, and by tag each service's target and standing weight. Only the calls of a switch alter it, so its
@@ -21,4 +22,14 @@ pub struct Register {
     ghost weights_fit: { beyond (2 ^ width.bits) weights ≡ false },
     ghost room: { services targets ≤ capacity },
     ghost change_fits: { change_fits width.bits capacity targets change ≡ true },
+}
+
+impl Register {
+    // The tables that stand.
+    pub(crate) fn standing(&self) -> Tables<'_>
+        ensures width { result.width ≡ self.now.width }
+        ensures weights { result.weights.now ≡ self.now.weights }
+    {
+        Tables::new(self.width, &self.weights)
+    }
 }

@@ -9,6 +9,7 @@ use crate::change::Change;
 use crate::register::Register;
 use crate::state::{Changing, Refused};
 use crate::steps::nth_write;
+use crate::tables::Tables;
 use memory::reader::Reader;
 use memory::rule_memory::RuleMemory;
 use model::write::Write;
@@ -61,12 +62,8 @@ fn next_write(register: &Register, change: Change) -> Option<Write>
     if change.left == 0 {
         return None;
     }
-    nth_write(
-        register.width,
-        &register.weights,
-        &change.weights,
-        change.steps - change.left,
-    )
+    let coming = Tables::new(register.width, &change.weights);
+    nth_write(register.standing(), coming, change.steps - change.left)
 }
 
 fn one_done(change: Change) -> Change

@@ -1,6 +1,7 @@
-use Rattle.std.proofs.Common.{None, sym}
+use Rattle.std.proofs.Common.{◌≡◌, length, None, sym}
 use Rattle.std.proofs.lemmas.Result.{err_from_is_err_and}
 use Rattle.plan.specs.Measures.{Misses}
+use Rattle.model.specs.Changes.{steps}
 use Rattle.switch.specs.Desks.{desk}
 use Rattle.switch.specs.declared.register.Register.{Register}
 use Rattle.switch.proofs.Admission.{admit_refused, plan_refuses, plan_fits, forecast_is}
@@ -33,25 +34,23 @@ returns-in_err-planned g c =
       long = tt;
     })
 
-pub count_writes-steps-requires : goal.count_writes-steps-requires
-count_writes-steps-requires g c =
+pub new-coming-requires : goal.new-coming-requires
+new-coming-requires g c =
     let r : Register = c.args.register.now in
-    record {
-      standing_fit = r.weights_fit;
-      coming_fit = plan_fits r.width.bits r.capacity r.targets r.width.some r.width.most (fits r)
-          (g.E.Measure.miss c.args.measure.now) (g.met.E.Measure.lawful c.args.measure.now) c.args.order (sym c.in_ok-admit.ensures)
-          c.bits.result c.apply-targets.result c.bits.ensures c.apply-targets.ensures.value
-          c.in_ok-planned.ensures.refused _ c.in_ok-planned.ensures.weights;
-    }
+    plan_fits r.width.bits r.capacity r.targets r.width.some r.width.most (fits r)
+    (g.E.Measure.miss c.args.measure.now) (g.met.E.Measure.lawful c.args.measure.now) c.args.order (sym c.in_ok-admit.ensures)
+    c.bits.result c.apply-targets.result c.bits.ensures c.apply-targets.ensures.value
+    c.in_ok-planned.ensures.refused _ c.in_ok-planned.ensures.weights
 
 pub returns : goal.returns
 returns g c =
     let r : Register = c.args.register.now in
     let m : Misses = g.E.Measure.miss c.args.measure.now in
     let h = c.in_ok-planned.ensures in
+    let s : c.count_writes-steps.result ≡ length (steps r.width.bits r.weights c.in_ok-planned.planned.weights) = cc in
     let f = forecast_is m (desk r) c.args.order c.bits.result c.apply-targets.result c.in_ok-planned.planned.weights
     c.in_ok-planned.planned.worst c.in_ok-planned.planned.rules c.count_writes-steps.result
-    c.bits.ensures c.apply-targets.ensures.value h.worst h.weights h.rules c.count_writes-steps.ensures in
+    c.bits.ensures c.apply-targets.ensures.value h.worst h.weights h.rules s in
     record {
       refused = plan_refuses r.width.bits r.capacity r.targets r.width.some r.width.most (fits r)
           m (g.met.E.Measure.lawful c.args.measure.now) c.args.order (sym c.in_ok-admit.ensures)

@@ -1,22 +1,57 @@
-use Rattle.std.proofs.Common.{◌≡◌, ◌-◌, length, arith}
+use Rattle.std.proofs.Common.{◌≡◌, ℕ, ◌^◌, ◌≤◌, Bool, true, false, cond, List, length, sym, ap, ◌∙◌, subst, inl, arith, rules, tests}
+use Rattle.std.proofs.lemmas.Iterator.Consumers.{YieldsList-at, YieldsList-from_filter_map, YieldsList-from_chain, count_from_yields_List}
+use Rattle.rules.specs.declared.width.Width.{Width}
+use Rattle.plan.specs.Plans.{beyond}
+use Rattle.model.specs.declared.write.Write.{Write}
 use Rattle.model.specs.Changes.{steps}
-use Rattle.switch.proofs.Passes.{few_steps}
-use Rattle.switch.proofs.Seeks.{left_past, none_past}
+use Rattle.switch.specs.Seeking.{removal, placement}
+use Rattle.switch.specs.Tabled.{tagged_rules}
+use Rattle.switch.specs.Walked.{rules_left}
+use Rattle.switch.proofs.Passes.{few_steps, steps_written}
+use Rattle.switch.proofs.Walking.{all_given, few_rules}
 use Rattle.switch.proofs.steps.count_writes.Goals as goal
 
-pub unreachable-requires : goal.unreachable-requires
-unreachable-requires c =
-    let few = few_steps c.args.width.bits c.args.standing.now c.args.coming.now c.args.width.most c.requires.standing_fit c.requires.coming_fit in
-    none_past (steps c.args.width.bits c.args.standing.now c.args.coming.now) 1664 c.in-Found.field-0 few c.in-Found.ensures
+none_or : (b : Bool) (n : ℕ) → cond b 0 n ≤ n
+none_or true n = omega arith
+none_or false n = omega arith
 
-left_is : (c : goal.In-Left) → c.in-Left.left ≡ 1664 - length (steps c.args.width.bits c.args.standing.now c.args.coming.now)
-left_is c =
-    let few = few_steps c.args.width.bits c.args.standing.now c.args.coming.now c.args.width.most c.requires.standing_fit c.requires.coming_fit in
-    left_past (steps c.args.width.bits c.args.standing.now c.args.coming.now) 1664 c.in-Left.left few c.in-Left.ensures
+counted : (c : goal.After-count) → c.count.result ≡ length (steps c.args.standing.width.bits c.args.standing.weights.now c.args.coming.weights.now)
+counted c =
+    let W = c.args.standing.width.bits in
+    let V = c.args.coming.width.bits in
+    let standing = c.args.standing.weights.now in
+    let coming = c.args.coming.weights.now in
+    count_from_yields_List c.chain.result c.count.result c.count.ensures.ran
+    (YieldsList-from_chain
+    (YieldsList-at c.chain.ensures.first (YieldsList-from_filter_map _ (removal V coming) (YieldsList-at c.filter_map-removals.ensures.source (all_given c.rules.result _ c.rules.ensures)) c.filter_map-removals.ensures.closure (λ x r q k. search (rules, tests))))
+    (YieldsList-at c.chain.ensures.second (YieldsList-from_filter_map _ (placement W standing) (YieldsList-at c.filter_map-puts.ensures.source (all_given c.rules-2.result _ c.rules-2.ensures)) c.filter_map-puts.ensures.closure (λ x r q k. search (rules, tests))))
+    c.chain.ensures.first_done c.chain.ensures.second_done)
+    ∙ ap length (steps_written W standing coming V (ap (λ w. w.bits) c.requires))
 
-pub overflow_sub-result : goal.overflow_sub-result
-overflow_sub-result c = omega (arith, left_is c)
+pub count-requires-clause-fits : goal.count-requires-clause-fits
+count-requires-clause-fits c =
+    let s = c.args.standing in
+    let t = c.args.coming in
+    let x : rules_left c.chain.result.a.iter ≡ tagged_rules s.width.bits s.weights.now
+    = ap (λ f. rules_left f.iter) c.chain.ensures.first ∙ ap rules_left c.filter_map-removals.ensures.source ∙ c.rules.ensures in
+    let y : rules_left c.chain.result.b.iter ≡ tagged_rules t.width.bits t.weights.now
+    = ap (λ f. rules_left f.iter) c.chain.ensures.second ∙ ap rules_left c.filter_map-puts.ensures.source ∙ c.rules-2.ensures in
+    inl (omega (
+      arith,
+      ap length x,
+      ap length y,
+      none_or c.chain.result.a_done (length (rules_left c.chain.result.a.iter)),
+      none_or c.chain.result.b_done (length (rules_left c.chain.result.b.iter)),
+      few_rules s.width.bits s.weights.now s.width.most s.fit,
+      few_rules t.width.bits t.weights.now t.width.most t.fit,
+    ))
+
+pub overflow_cast-result : goal.overflow_cast-result
+overflow_cast-result c =
+    let s = c.args.standing in
+    let t = c.args.coming in
+    let fit : beyond (2 ^ s.width.bits) t.weights.now ≡ false = subst (λ (w : Width). beyond (2 ^ w.bits) t.weights.now ≡ false) (sym c.requires) t.fit in
+    omega (arith, counted c, few_steps s.width.bits s.weights.now t.weights.now s.width.most s.fit fit)
 
 pub returns : goal.returns
-returns c =
-    omega (arith, left_is c, few_steps c.args.width.bits c.args.standing.now c.args.coming.now c.args.width.most c.requires.standing_fit c.requires.coming_fit)
+returns c = counted c

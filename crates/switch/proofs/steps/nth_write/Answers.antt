@@ -1,11 +1,24 @@
-use Rattle.model.specs.Changes.{steps}
-use Rattle.switch.proofs.Seeks.{found_at, none_at}
+use Rattle.std.proofs.Common.{◌≡◌, List, sym, ap, ◌∙◌, rules, tests}
+use Rattle.std.proofs.lemmas.Iterator.Consumers.{YieldsList-at, YieldsList-from_filter_map, YieldsList-from_chain, nth_from_yields_List}
+use Rattle.model.specs.declared.write.Write.{Write}
+use Rattle.model.specs.Changes.{write_at, steps}
+use Rattle.switch.specs.Seeking.{removal, placement}
+use Rattle.switch.proofs.Passes.{as_it_is, nth_is, steps_written}
+use Rattle.switch.proofs.Walking.{all_given}
 use Rattle.switch.proofs.steps.nth_write.Goals as goal
 
-pub returns-in-Found : goal.returns-in-Found
-returns-in-Found c =
-    found_at (steps c.args.width.bits c.args.standing.now c.args.coming.now) c.args.n c.in-Found.write c.in-Found.ensures
-
-pub returns-in-Left : goal.returns-in-Left
-returns-in-Left c =
-    none_at (steps c.args.width.bits c.args.standing.now c.args.coming.now) c.args.n c.in-Left.field-0 c.in-Left.ensures
+pub returns : goal.returns
+returns c =
+    let W = c.args.standing.width.bits in
+    let V = c.args.coming.width.bits in
+    let standing = c.args.standing.weights.now in
+    let coming = c.args.coming.weights.now in
+    let written = steps_written W standing coming V (ap (λ w. w.bits) c.requires) in
+    sym (as_it_is c.nth.result)
+    ∙ nth_from_yields_List c.nth.result c.nth.new.self c.args.n c.nth.ensures.ran
+    (YieldsList-from_chain
+    (YieldsList-at c.chain.ensures.first (YieldsList-from_filter_map _ (removal V coming) (YieldsList-at c.filter_map-removals.ensures.source (all_given c.rules.result _ c.rules.ensures)) c.filter_map-removals.ensures.closure (λ x r q k. search (rules, tests))))
+    (YieldsList-at c.chain.ensures.second (YieldsList-from_filter_map _ (placement W standing) (YieldsList-at c.filter_map-puts.ensures.source (all_given c.rules-2.result _ c.rules-2.ensures)) c.filter_map-puts.ensures.closure (λ x r q k. search (rules, tests))))
+    c.chain.ensures.first_done c.chain.ensures.second_done)
+    ∙ nth_is _ c.args.n
+    ∙ ap (λ (ws : List Write). write_at ws c.args.n) written
