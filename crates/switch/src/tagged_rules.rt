@@ -15,8 +15,8 @@ use crate::tables::{Tables, TaggedRule, TaggedRules};
 use memory::key::{KeyRule, Prefix};
 use rules::rule::Rule;
 use rules::server::Server;
-use rules::shortest::shortest_table;
 use rules::table::Table;
+use rules::weight::Weight;
 use rules::width::Width;
 
 impl<'a> Tables<'a> {
@@ -53,7 +53,7 @@ impl<'a> Tables<'a> {
         None
     }
 
-    // The table of a tag, if there is a service under it.
+    // The table of a tag, if there is a service under it. Since the weights fit, nothing is capped.
     fn table(self, tag: u32) -> Option<Table>
         ensures rules { left_in result ≡ table_of self.entry.width.bits (slice_index_or self.entry.weights.now tag None) }
         ensures fit { all_fit self.entry.width.bits (left_in result) ≡ true }
@@ -61,7 +61,7 @@ impl<'a> Tables<'a> {
     {
         let weights = self.weights;
         let weight = (*weights.get(tag as usize)?)?;
-        Some(table_for(self.width, weight))
+        Some(Weight::capped(self.width, weight).table())
     }
 }
 
@@ -104,17 +104,6 @@ impl<'a> TaggedRules<'a> {
             rule,
             key_rule: key_rule(self.tables.width, self.tag, rule),
         })
-    }
-}
-
-fn table_for(width: Width, weight: u32) -> Table
-    requires { weight ≤ 2 ^ width.bits }
-    ensures rules { to_come result ≡ table width.bits weight }
-    ensures fit { all_fit width.bits (to_come result) ≡ true }
-{
-    match shortest_table(width.bits(), weight) {
-        Ok(table) => table,
-        Err(_) => unreachable(),
     }
 }
 
