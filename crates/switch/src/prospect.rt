@@ -1,8 +1,8 @@
 // What comes of an order.
-ghost use Rattle.std.specs.Prelude.{◌≡◌, ◌^◌, false, length, IfOk, if◌then◌else◌, Some, None, slice_set};
+ghost use Rattle.std.specs.Prelude.{◌≡◌, ◌^◌, false, length, IfOk, None, slice_set, slice_index_or};
 ghost use Rattle.rules.specs.Refusals.{first, refusal};
 ghost use Rattle.plan.specs.Plans.{beyond};
-ghost use Rattle.model.specs.Grounds.{registered, order_grounds};
+ghost use Rattle.model.specs.Grounds.{order_grounds};
 ghost use Rattle.model.specs.Models.{coming};
 ghost use Rattle.switch.specs.Calls.{forecast_of, weights_of};
 ghost use Rattle.switch.specs.Desks.{desk};
@@ -59,8 +59,9 @@ pub(crate) fn apply(targets: [Option<u32>; 64], order: Order) -> [Option<u32>; 6
     ensures long { length result ≡ 64 }
 {
     match order {
-        Order::Enter { tag, target } => with_target(targets, tag, Some(target)),
-        Order::Reweigh { tag, target } => with_target(targets, tag, Some(target)),
+        Order::Enter { tag, target } | Order::Reweigh { tag, target } => {
+            with_target(targets, tag, Some(target))
+        }
         Order::Withdraw { tag } => with_target(targets, tag, None),
     }
 }
@@ -81,46 +82,41 @@ fn admit(register: &Register, order: Order) -> Result<(), Refusal>
     ensures { refusal result ≡ first (admit_grounds register.now.width.bits register.now.targets order) }
 {
     match order {
-        Order::Enter { tag, target } => {
-            let there = find_for(register, tag, target)?;
-            known(!there, Refusal::AlreadyRegistered)
-        }
-        Order::Reweigh { tag, target } => {
-            let there = find_for(register, tag, target)?;
-            known(there, Refusal::NotRegistered)
-        }
-        Order::Withdraw { tag } => {
-            let there = find(register, tag)?;
-            known(there, Refusal::NotRegistered)
-        }
+        Order::Enter { tag, target } => match find_for(register, tag, target)? {
+            Some(_) => Err(Refusal::AlreadyRegistered),
+            None => Ok(()),
+        },
+        Order::Reweigh { tag, target } => match find_for(register, tag, target)? {
+            Some(_) => Ok(()),
+            None => Err(Refusal::NotRegistered),
+        },
+        Order::Withdraw { tag } => match find(register, tag)? {
+            Some(_) => Ok(()),
+            None => Err(Refusal::NotRegistered),
+        },
     }
 }
 
-// Whether there is a service under the tag, which is refused above 63.
-fn find(register: &Register, tag: u32) -> Result<bool, Refusal>
+// The target of the service under the tag, which is refused above 63.
+fn find(register: &Register, tag: u32) -> Result<Option<u32>, Refusal>
     ensures refused { refusal result ≡ first (tag_grounds tag) }
-    ensures found { IfOk result (λ there. there ≡ registered register.now.targets tag) }
+    ensures found { IfOk result (λ target. target ≡ slice_index_or register.now.targets tag None) }
 {
-    if tag > 63 {
-        return Err(Refusal::TagOutOfRange);
-    }
-    Ok(register.targets[tag as usize].is_some())
+    let target = register
+        .targets
+        .get(tag as usize)
+        .ok_or(Refusal::TagOutOfRange)?;
+    Ok(*target)
 }
 
 // The same for an order with a target, which is refused above 2^W.
-fn find_for(register: &Register, tag: u32, target: u32) -> Result<bool, Refusal>
+fn find_for(register: &Register, tag: u32, target: u32) -> Result<Option<u32>, Refusal>
     ensures refused { refusal result ≡ first (service_grounds register.now.width.bits tag target) }
-    ensures found { IfOk result (λ there. there ≡ registered register.now.targets tag) }
+    ensures found { IfOk result (λ standing. standing ≡ slice_index_or register.now.targets tag None) }
 {
-    let there = find(register, tag)?;
+    let standing = find(register, tag)?;
     if target > register.width.addresses() {
         return Err(Refusal::BeyondWidth);
     }
-    Ok(there)
-}
-
-fn known(right: bool, why: Refusal) -> Result<(), Refusal>
-    ensures { refusal result ≡ (if right then None else Some why) }
-{
-    if right { Ok(()) } else { Err(why) }
+    Ok(standing)
 }

@@ -2,7 +2,7 @@
 ghost use Rattle.std.specs.Prelude.{◌≡◌, ℕ, ◌^◌, ◌<◌, false, MatchResult};
 ghost use Rattle.rules.specs.Refusals.{first, refusal};
 ghost use Rattle.plan.specs.Plans.{beyond};
-ghost use Rattle.switch.specs.Calls.{refusal_of, next_write, write_grounds, write_held, one_done, step_refusal, step_desk, step_held};
+ghost use Rattle.switch.specs.Calls.{refusal_of, next_write, write_grounds, write_held, step_refusal, step_desk, step_held};
 ghost use Rattle.switch.specs.Desks.{desk, underway, view};
 
 use crate::change::Change;
@@ -43,14 +43,15 @@ fn advance<M: RuleMemory>(register: &mut Register, memory: &mut M) -> Result<(),
     ensures held { (v l : ℕ) → M.Reader.held_at memory.new v l ≡ step_held (desk register.old) (view M.Reader.held_at M.Reader.size M.RuleMemory.limit memory.old) v l }
     ensures limit { M.RuleMemory.limit memory.new ≡ M.RuleMemory.limit memory.old }
 {
-    let Some(change) = register.change else {
+    let Some(mut change) = register.change else {
         return Err(Refusal::StateMismatch);
     };
     let Some(write) = next_write(register, change) else {
         return Err(Refusal::StepsMismatch);
     };
     carry_out(memory, write)?;
-    register.change = Some(one_done(change));
+    change.left -= 1;
+    register.change = Some(change);
     Ok(())
 }
 
@@ -64,19 +65,6 @@ fn next_write(register: &Register, change: Change) -> Option<Write>
     }
     let coming = Tables::new(register.width, &change.weights);
     nth_write(register.standing(), coming, change.steps - change.left)
-}
-
-fn one_done(change: Change) -> Change
-    requires { 0 < change.left }
-    ensures { underway result ≡ one_done (underway change) }
-{
-    let weights = change.weights;
-    Change {
-        order: change.order,
-        weights,
-        steps: change.steps,
-        left: change.left - 1,
-    }
 }
 
 // Writes one rule, and takes a prefix with nothing at it for a fault.
