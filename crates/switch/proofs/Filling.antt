@@ -26,9 +26,6 @@ pub record Filled (text o : List ℕ) (used : ℕ) (left out : List ℕ) : Type 
   pub to_write : drop used text ≡ left
   pub bytes : out ≡ take used text ++ drop used o
 
-pub filled_none : (text o : List ℕ) → Filled text o 0 text o
-filled_none text o = record { within = omega arith; to_write = refl; bytes = refl }
-
 module _ (text o ys more out : List ℕ) (used : ℕ) (f : Filled text o used (ys ++ more) out) where
   split : text ≡ (take used text ++ ys) ++ more
   split = sym (take-append-drop used text) ∙ ap (λ (w : List ℕ). take used text ++ w) f.to_write ∙ sym (append_assoc (take used text) ys more)
@@ -62,11 +59,6 @@ module _ (text o ys more out : List ℕ) (used : ℕ) (f : Filled text o used (y
 -- the text says what is left in another way
 pub filled_as : (text o left left' out : List ℕ) (used : ℕ) → left ≡ left' → Filled text o used left out → Filled text o used left' out
 filled_as text o left left' out used e f = record { within = f.within; to_write = f.to_write ∙ e; bytes = f.bytes }
-
--- the buffer keeps its length
-pub filled_long : (text o left out : List ℕ) (used : ℕ) → Filled text o used left out → length text ≤ length o → length out ≡ length o
-filled_long text o left out used f room =
-    omega (arith, f.within, ap length f.bytes, length-append (take used text) (drop used o), length-take-le used text f.within, length-drop used o)
 
 -- nothing is left
 pub used_all : (text o out : List ℕ) (used : ℕ) → Filled text o used [] out → used ≡ length text

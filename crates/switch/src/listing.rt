@@ -99,7 +99,7 @@ fn trailer(extent: Extent) -> ArrayVec<u8, 27>
     text
 }
 
-// A number in at most ten digits, and the byte that ends it.
+// A number in at most ten digits, and the byte that ends it. It is no `write!`, since what that ensures does not say when it succeeds.
 fn push_number<const N: usize>(text: &mut ArrayVec<u8, N>, n: u32, end: u8)
     requires { array_vec_len text.old + 11 ≤ N }
     ensures items { text.new.items ≡ text.old.items ++ numbered n end }

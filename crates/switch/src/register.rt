@@ -8,7 +8,8 @@ use crate::tables::Tables;
 use rules::width::Width;
 
 // The width, the capacity of the rule memory, and by tag each service's target and standing weight. Only the calls of a switch alter it, so its
-// numbers always fit one another.
+// numbers always fit one another. The targets and the weights stay two arrays, since the planner takes targets alone and gives weights alone. Their
+// lengths are facts of their own, since a proof that reads a field does not get what the field's type says of it.
 #[derive(Drop)]
 pub struct Register {
     pub(crate) width: Width,

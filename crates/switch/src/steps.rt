@@ -16,7 +16,7 @@ pub(crate) fn nth_write(standing: Tables, coming: Tables, n: u32) -> Option<Writ
     removals.chain(puts).nth(n as usize)
 }
 
-// How many steps there are.
+// How many steps there are. Their chain stands here again, since no function can hand out a chain of closures.
 pub(crate) fn count_writes(standing: Tables, coming: Tables) -> u32
     requires { standing.width ≡ coming.width }
     ensures { result ≡ length (steps standing.entry.width.bits standing.entry.weights.now coming.entry.weights.now) }

@@ -25,7 +25,8 @@ pub(crate) struct TaggedRule {
     pub(crate) key_rule: KeyRule,
 }
 
-// The state from which the rules of all tables come one after the other: those left in the table of `tag`, and then those of the tags behind it.
+// The state from which the rules of all tables come one after the other: those left in the table of `tag`, and then those of the tags behind it. It
+// is a type of its own, since a chain that holds closures has no type that a function could hand out.
 #[derive(Clone, Copy)]
 pub(crate) struct TaggedRules<'a> {
     pub(crate) tables: Tables<'a>,
