@@ -1,31 +1,21 @@
 -- An order is refused by its own grounds, or by those of the plan that it brings.
-use Rattle.std.proofs.Common.{◌≡◌, ℕ, ◌+◌, ◌^◌, ◌<◌, ◌≤◌, false, cond, not, ltb, List, [], ◌∷◌, length, set, Some, None, Option, sym, ap, ◌∙◌, ap₂, arith}
+use Rattle.std.proofs.Common.{◌≡◌, ℕ, ◌^◌, ◌<◌, ◌≤◌, false, cond, not, ltb, List, length, set, Some, None, Option, sym, ap, ◌∙◌, ap₂, arith}
 use Rattle.std.proofs.lemmas.Bool.{or_from, ltb-false, le-ltb, not-false, cond-false}
 use Rattle.rules.specs.declared.refusal.Refusal.{Refusal}
 use Rattle.rules.specs.declared.refusal.Refusal.TheVariants.{TagOutOfRange, BeyondWidth, AlreadyRegistered, NotRegistered, TooManyServices}
 use Rattle.rules.specs.Grounds.{bad_width}
-use Rattle.rules.specs.Refusals.{◌when◌, first}
-use Rattle.rules.proofs.Refusing.{refused_by}
+use Rattle.rules.specs.Refusals.{first}
 use Rattle.plan.specs.Grounds.{plan_grounds}
 use Rattle.plan.specs.Measures.{Misses, Lawful}
-use Rattle.plan.specs.Plans.{services, beyond, worst_miss, plan_weights, rule_total}
-use Rattle.model.specs.declared.answer.Forecast.{Forecast}
+use Rattle.plan.specs.Plans.{services, beyond, plan_weights}
 use Rattle.model.specs.declared.order.Order.{Order}
 use Rattle.model.specs.declared.order.Order.TheVariants.{Enter, Reweigh, Withdraw}
-use Rattle.model.specs.Changes.{steps}
 use Rattle.model.specs.Grounds.{registered, order_grounds}
 use Rattle.model.specs.Models.{coming}
 use Rattle.model.specs.Sound.{Fitting}
 use Rattle.model.proofs.Orders.{past, enter_services, reweigh_services, withdraw_services, set_beyond, unset_beyond, order_fitting}
 use Rattle.model.proofs.Plans.{planned}
-use Rattle.switch.specs.Calls.{weights_of, forecast_of}
-use Rattle.switch.specs.Desks.{Desk}
 use Rattle.switch.specs.Prospects.{admit_grounds}
-
-pub admit_refused : (W R : ℕ) (ts : List (Option ℕ)) (o : Order) (why : Refusal) → Some why ≡ first (admit_grounds W ts o) → Some why ≡ first (order_grounds W R ts o)
-admit_refused W R ts (Enter t c) why e = refused_by why (admit_grounds W ts (Enter t c)) ((TooManyServices when ltb R (services ts + 1)) ∷ []) e
-admit_refused W R ts (Reweigh t c) why e = e
-admit_refused W R ts (Withdraw t) why e = e
 
 -- of services that fit, the plan refuses only too many
 plan_refusal : (W R : ℕ) (cs : List (Option ℕ)) → 1 ≤ W → W ≤ 24 → beyond (2 ^ W) cs ≡ false → first (plan_grounds W R cs) ≡ cond (ltb R (services cs)) (Some TooManyServices) None
@@ -63,14 +53,3 @@ module _ (W R : ℕ) (ts : List (Option ℕ)) (low : 1 ≤ W) (high : W ≤ 24) 
     plan_fits h ds d =
         ap (beyond (2 ^ W)) (d ∙ ap₂ (λ (w : ℕ) (zs : List (Option ℕ)). plan_weights miss w R zs) v e)
         ∙ (planned miss lawful W R low high (coming o ts) (order_fitting W R ts o f (sym (plan_refuses None h)))).fit
-
--- What the planner and the count of steps found is the forecast.
-pub forecast_is : (miss : Misses) (d : Desk) (o : Order) (V : ℕ) (cs ds : List (Option ℕ)) (E T n : ℕ) → V ≡ d.width → cs ≡ coming o d.targets
-    → E ≡ worst_miss miss V d.capacity cs → ds ≡ plan_weights miss V d.capacity cs → T ≡ rule_total V ds → n ≡ length (steps d.width d.weights ds)
-    → (◌≡◌ {A = Forecast} (record { order = o; worst = E; rules = T; steps = n }) (forecast_of miss d o)) × (ds ≡ weights_of miss d o)
-forecast_is miss d o V cs ds E T n v e worst weights rules count =
-    let same : ds ≡ weights_of miss d o = weights ∙ ap₂ (λ (w : ℕ) (zs : List (Option ℕ)). plan_weights miss w d.capacity zs) v e in
-    let a : E ≡ worst_miss miss d.width d.capacity (coming o d.targets) = worst ∙ ap₂ (λ (w : ℕ) (zs : List (Option ℕ)). worst_miss miss w d.capacity zs) v e in
-    let b : T ≡ rule_total d.width (weights_of miss d o) = rules ∙ ap₂ (λ (w : ℕ) (zs : List (Option ℕ)). rule_total w zs) v same in
-    let c : n ≡ length (steps d.width d.weights (weights_of miss d o)) = count ∙ ap (λ (zs : List (Option ℕ)). length (steps d.width d.weights zs)) same in
-    ((λ i. record { order = o; worst = a i; rules = b i; steps = c i }), same)

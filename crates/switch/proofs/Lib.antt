@@ -9,4 +9,3 @@ pub mod Reading
 pub mod Registered
 pub mod Running
 pub mod Walking
-pub mod Writes

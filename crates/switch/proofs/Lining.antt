@@ -1,5 +1,5 @@
 -- The lines of a listing, rule by rule.
-use Rattle.std.proofs.Common.{◌≡◌, ℕ, ◌+◌, ◌-◌, ◌*◌, ◌^◌, ◌<◌, ◌≤◌, false, List, [], ◌∷◌, ◌++◌, map, length, take, drop, Some, None, Option, slice_index_or, sym, refl, ap, ◌∙◌, ap₂, append_assoc, arith}
+use Rattle.std.proofs.Common.{◌≡◌, ℕ, ◌+◌, ◌-◌, ◌<◌, ◌≤◌, List, [], ◌∷◌, ◌++◌, map, length, take, drop, Some, None, Option, slice_index_or, sym, refl, ap, ◌∙◌, ap₂, append_assoc, arith}
 use borrow.Rule.Slice.PartMut.{put_mid}
 use Rattle.std.specs.List.{flat_map}
 use Rattle.std.proofs.lemmas.List.{map-append, length-append, length-map, take_at, drop_at, drop-drop}
@@ -8,16 +8,11 @@ use Rattle.std.proofs.lemmas.Bool.Decides.{nat_tests}
 use Rattle.rules.specs.declared.refusal.Refusal.TheVariants.{BufferTooShort}
 use Rattle.rules.specs.declared.rule.Rule.{Rule}
 use Rattle.rules.specs.Refusals.{first}
-use Rattle.rules.specs.Tables.{table}
-use Rattle.rules.proofs.Fewness.{L_most}
-use Rattle.rules.proofs.Tables.{table_laws}
-use Rattle.plan.specs.Plans.{beyond}
-use Rattle.model.specs.Keyed.{from, tags, table_of}
+use Rattle.model.specs.Keyed.{tags, table_of}
 use Rattle.switch.specs.declared.tables.TaggedRule.{TaggedRule}
 use Rattle.switch.specs.Listings.{Standing, under, standing_of, standing, line, lines, trailer, text_of, listing, over, list_grounds}
 use Rattle.switch.specs.Tabled.{tagged, tagged_of, tagged_rules}
 use Rattle.switch.proofs.Filling.{lent}
-use Rattle.switch.proofs.Keying.{fit_at}
 
 -- ---- the rules of a listing, and the lines of some
 

@@ -1,5 +1,5 @@
 use Rattle.std.proofs.Common.{◌≡◌, ℕ, ◌+◌, ◌-◌, List, length, take, drop, refl, ap, ◌∙◌, arith}
-use Rattle.switch.specs.Listings.{standing, lines, trailer, listing, over}
+use Rattle.switch.specs.Listings.{standing, lines, listing, over}
 use Rattle.switch.proofs.Lining.{listing_long, listing_written, too_short, long_enough}
 use Rattle.switch.proofs.Reading.{read_over}
 use Rattle.switch.proofs.listing.list.Goals as goal

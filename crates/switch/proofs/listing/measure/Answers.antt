@@ -1,4 +1,4 @@
-use Rattle.std.proofs.Common.{◌≡◌, List, length, ap, ◌∙◌, arith}
+use Rattle.std.proofs.Common.{List, length, ap, ◌∙◌, arith}
 use Rattle.switch.specs.declared.tables.TaggedRule.{TaggedRule}
 use Rattle.switch.specs.Walked.{rules_left}
 use Rattle.switch.proofs.Lining.{lines_of, lines_are, count_is}

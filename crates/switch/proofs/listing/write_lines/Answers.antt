@@ -1,4 +1,4 @@
-use Rattle.std.proofs.Common.{◌≡◌, ◌-◌, List, [], length, take, drop, ℕ, ap, ◌∙◌, arith}
+use Rattle.std.proofs.Common.{◌-◌, List, [], length, take, drop, ℕ, ap, ◌∙◌, arith}
 use Rattle.switch.specs.Listings.{line, over}
 use Rattle.switch.specs.Walked.{rules_left}
 use Rattle.switch.proofs.Filling.{lent_long, filled_as, turn, turn_room, used_all, filled_all}

@@ -1,8 +1,7 @@
-use Rattle.std.proofs.Common.{◌≡◌, ℕ, ◌^◌, ◌≤◌, Bool, true, false, cond, List, length, sym, ap, ◌∙◌, subst, inl, arith, rules, tests}
+use Rattle.std.proofs.Common.{◌≡◌, ℕ, ◌^◌, ◌≤◌, Bool, true, false, cond, length, sym, ap, ◌∙◌, subst, inl, arith, rules, tests}
 use Rattle.std.proofs.lemmas.Iterator.Consumers.{YieldsList-at, YieldsList-from_filter_map, YieldsList-from_chain, count_from_yields_List}
 use Rattle.rules.specs.declared.width.Width.{Width}
 use Rattle.plan.specs.Plans.{beyond}
-use Rattle.model.specs.declared.write.Write.{Write}
 use Rattle.model.specs.Changes.{steps}
 use Rattle.switch.specs.Seeking.{removal, placement}
 use Rattle.switch.specs.Tabled.{tagged_rules}

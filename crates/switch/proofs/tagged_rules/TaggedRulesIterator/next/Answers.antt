@@ -1,5 +1,4 @@
-use Rattle.std.proofs.Common.{◌≡◌, ◌<◌, ◌∷◌, length, ap, ◌∙◌, arith, rules, refl}
-use Rattle.switch.specs.Walked.{rules_left}
+use Rattle.std.proofs.Common.{◌<◌, length, ap, ◌∙◌, arith, rules, refl}
 use Rattle.switch.proofs.Walking.{none_left, next_table}
 use Rattle.switch.proofs.tagged_rules.TaggedRulesIterator.next.Goals as goal
 
