@@ -4,8 +4,8 @@ pub mod Filling
 pub mod Follows
 pub mod Keying
 pub mod Lining
-pub mod Passes
 pub mod Reading
 pub mod Registered
 pub mod Running
+pub mod Stepwise
 pub mod Walking

@@ -16,7 +16,7 @@ use Rattle.model.specs.Keyed.{keyed, from, tags, table_of, rules_of, key_rules}
 use Rattle.model.proofs.Keys.{InRange, all_shapes}
 use Rattle.model.proofs.Counts.{key_count}
 use Rattle.switch.specs.Listings.{Standing, under, standing_of, standing, line, lines, trailer, text_of, listing, over, Small, way_back, as_key, ReadBack}
-use Rattle.switch.proofs.Passes.{map_joined, range}
+use Rattle.switch.proofs.Stepwise.{map_joined, range}
 
 -- ---- numbers
 

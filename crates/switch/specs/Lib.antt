@@ -6,7 +6,7 @@ pub mod Kept
 pub mod Listings
 pub mod Prospects
 pub mod Runs
-pub mod Seeking
 pub mod States
+pub mod Steps
 pub mod Tabled
 pub mod Walked

@@ -37,7 +37,7 @@ pub fn list(register: &Register, out: &mut [u8]) -> Result<usize, Refusal>
     Ok(used + rest)
 }
 
-// What the lines of all rules come to.
+// What the lines of all rules come to. One walk counts both.
 fn measure(tables: Tables) -> Extent
     ensures bytes { result.bytes ≡ length (lines (standing tables.entry.width.bits tables.entry.weights.now)) }
     ensures count { result.count ≡ length (standing tables.entry.width.bits tables.entry.weights.now) }

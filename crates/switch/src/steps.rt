@@ -1,7 +1,7 @@
 // The steps of a change, found by their place.
 ghost use Rattle.std.specs.Prelude.{◌≡◌, length};
 ghost use Rattle.model.specs.Changes.{steps, write_at};
-ghost use Rattle.switch.specs.Seeking.{removal, placement};
+ghost use Rattle.switch.specs.Steps.{removal, placement};
 
 use crate::tables::{Tables, TaggedRule};
 use model::write::Write;

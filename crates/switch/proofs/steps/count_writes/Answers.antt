@@ -3,10 +3,10 @@ use Rattle.std.proofs.lemmas.Iterator.Consumers.{YieldsList-at, YieldsList-from_
 use Rattle.rules.specs.declared.width.Width.{Width}
 use Rattle.plan.specs.Plans.{beyond}
 use Rattle.model.specs.Changes.{steps}
-use Rattle.switch.specs.Seeking.{removal, placement}
+use Rattle.switch.specs.Steps.{removal, placement}
 use Rattle.switch.specs.Tabled.{tagged_rules}
 use Rattle.switch.specs.Walked.{rules_left}
-use Rattle.switch.proofs.Passes.{few_steps, steps_written}
+use Rattle.switch.proofs.Stepwise.{few_steps, steps_written}
 use Rattle.switch.proofs.Walking.{all_given, few_rules}
 use Rattle.switch.proofs.steps.count_writes.Goals as goal
 

@@ -2,8 +2,8 @@ use Rattle.std.proofs.Common.{List, sym, ap, ◌∙◌, rules, tests}
 use Rattle.std.proofs.lemmas.Iterator.Consumers.{YieldsList-at, YieldsList-from_filter_map, YieldsList-from_chain, nth_from_yields_List}
 use Rattle.model.specs.declared.write.Write.{Write}
 use Rattle.model.specs.Changes.{write_at}
-use Rattle.switch.specs.Seeking.{removal, placement}
-use Rattle.switch.proofs.Passes.{as_it_is, nth_is, steps_written}
+use Rattle.switch.specs.Steps.{removal, placement}
+use Rattle.switch.proofs.Stepwise.{as_it_is, nth_is, steps_written}
 use Rattle.switch.proofs.Walking.{all_given}
 use Rattle.switch.proofs.steps.nth_write.Goals as goal
 

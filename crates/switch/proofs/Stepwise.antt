@@ -13,7 +13,7 @@ use Rattle.model.specs.Changes.{lack_prefix, lack_rule, remove, removals, puts, 
 use Rattle.model.specs.Keyed.{keyed, table_of, tags, rules_of}
 use Rattle.model.proofs.Changing.{InRange, steps_few}
 use Rattle.switch.specs.declared.tables.TaggedRule.{TaggedRule}
-use Rattle.switch.specs.Seeking.{removal, placement}
+use Rattle.switch.specs.Steps.{removal, placement}
 use Rattle.switch.specs.Tabled.{tagged, tagged_of, tagged_rules}
 use Rattle.switch.proofs.Keying.{fit_at}
 
