@@ -14,17 +14,14 @@ pub trait Measure {
     ghost lawful: { (s : Self) → Lawful (miss s) };
 }
 
-// The largest miss, 2^40.
+// The largest miss, 2^40. Kept as a number, and no None: the law of all measures speaks of it, and its numbers compare.
 pub const FARTHEST: u64 = 1_099_511_627_776;
 
 // How many addresses there are, where all three numbers are in range.
 pub(crate) fn addresses(width: u32, target: u32, weight: u32) -> Option<u32>
     ensures { result ≡ (if in_range width target weight then Some (2 ^ width) else None) }
 {
-    let Ok(width) = Width::new(width) else {
-        return None;
-    };
-    let addresses = width.addresses();
+    let addresses = Width::new(width).ok()?.addresses();
     if target > addresses || weight > addresses {
         return None;
     }

@@ -4,9 +4,10 @@ ghost use Rattle.plan.specs.Relative.{relative, thousandths};
 ghost use Rattle.plan.specs.RelativeLaw.{relative_lawful};
 
 use crate::measure::{FARTHEST, Measure, addresses};
+use std::cmp::Ordering;
 
 // What a server gets too much, in thousandths of what it should get.
-#[derive(Clone, Copy)]
+#[derive(Clone, Copy, PartialEq, Eq, Debug)]
 pub struct Relative;
 
 impl Measure for Relative {
@@ -14,16 +15,15 @@ impl Measure for Relative {
 
     ghost lawful = { λ s. relative_lawful };
 
+    #[tactic(auto, unfolding(crate::specs::Relative::relative))]
     fn miss(&self, width: u32, target: u32, weight: u32) -> u64 {
         let Some(addresses) = addresses(width, target, weight) else {
             return FARTHEST;
         };
-        if weight > target {
-            thousandths(weight - target, target)
-        } else if weight < target {
-            thousandths(target - weight, addresses - target)
-        } else {
-            0
+        match weight.cmp(&target) {
+            Ordering::Greater => thousandths(weight - target, target),
+            Ordering::Less => thousandths(target - weight, addresses - target),
+            Ordering::Equal => 0,
         }
     }
 }
