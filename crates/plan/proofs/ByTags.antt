@@ -1,29 +1,11 @@
 -- Lists by tag, one tag after the other.
-use Rattle.std.proofs.Common.{◌≡◌, ℕ, zero, suc, ◌+◌, ◌<◌, ◌≤◌, Bool, true, false, ◌||◌, ltb, List, [], ◌∷◌, length, get_or, drop, Some, None, Option, refl, ap, ◌∙◌, subst, arith}
-use Rattle.std.proofs.lemmas.List.{at_drop_more, at_drop_all}
+use Rattle.std.proofs.Common.{◌≡◌, ℕ, zero, suc, ◌<◌, ◌≤◌, Bool, true, false, ◌||◌, ltb, List, [], ◌∷◌, length, get_or, drop, Some, None, Option, IfSome, refl, ap, subst, ap₂, arith}
+use Rattle.std.proofs.lemmas.List.{at_drop_all}
 use Rattle.std.proofs.lemmas.Bool.Decides.{nat_tests}
 use Rattle.plan.specs.ByTag.{total, any, on, by_tag, Every, Both, Each}
 
--- ---- sums and tests, one tag less
-
-module _ {X : Type 0} (xs : List (Option X)) (i : ℕ) (h : i < length xs) where
-  pub total_some : (f : X → ℕ) (x : X) → get_or xs i None ≡ Some x → total f (drop i xs) ≡ f x + total f (drop (i + 1) xs)
-  total_some f x e = at_drop_more (total f) xs i None h ∙ ap (λ (o : Option X). total f (o ∷ drop (i + 1) xs)) e
-
-  pub total_none : (f : X → ℕ) → get_or xs i None ≡ None → total f (drop i xs) ≡ total f (drop (i + 1) xs)
-  total_none f e = at_drop_more (total f) xs i None h ∙ ap (λ (o : Option X). total f (o ∷ drop (i + 1) xs)) e
-
-  pub any_some : (p : X → Bool) (x : X) → get_or xs i None ≡ Some x → any p (drop i xs) ≡ (p x || any p (drop (i + 1) xs))
-  any_some p x e = at_drop_more (any p) xs i None h ∙ ap (λ (o : Option X). any p (o ∷ drop (i + 1) xs)) e
-
-  pub any_none : (p : X → Bool) → get_or xs i None ≡ None → any p (drop i xs) ≡ any p (drop (i + 1) xs)
-  any_none p e = at_drop_more (any p) xs i None h ∙ ap (λ (o : Option X). any p (o ∷ drop (i + 1) xs)) e
-
 pub total_all : {X : Type 0} (f : X → ℕ) (xs : List (Option X)) (i : ℕ) → length xs ≤ i → total f (drop i xs) ≡ 0
 total_all f xs i h = at_drop_all (total f) xs i h
-
-pub any_all : {X : Type 0} (p : X → Bool) (xs : List (Option X)) (i : ℕ) → length xs ≤ i → any p (drop i xs) ≡ false
-any_all p xs i h = at_drop_all (any p) xs i h
 
 -- no number is above n
 pub none_above : (n : ℕ) (ts : List (Option ℕ)) → any (λ c. ltb n c) ts ≡ false → Every (λ c. c ≤ n) ts
@@ -45,12 +27,41 @@ every_at P (Some y ∷ xs) zero x (h, k) e = let z : y ≡ x = cc in subst P z h
 every_at P (None ∷ xs) (suc i) x h e = every_at P xs i x h e
 every_at P (Some y ∷ xs) (suc i) x (h, k) e = every_at P xs i x k e
 
+pub every_if : {X : Type 0} (P : X → Type 0) (xs : List (Option X)) (i : ℕ) → Every P xs → IfSome (get_or xs i None) P
+every_if P [] i h = tt
+every_if P (None ∷ xs) zero h = tt
+every_if P (Some x ∷ xs) zero (h, k) = h
+every_if P (None ∷ xs) (suc i) h = every_if P xs i h
+every_if P (Some x ∷ xs) (suc i) (h, k) = every_if P xs i k
+
+-- P and Q of the pairs, one behind the other
+pub each_then : {X Y Z : Type 0} (P : X → Y → Type 0) (Q : Y → Z → Type 0) (R : X → Z → Type 0) → ((x : X) (y : Y) (z : Z) → P x y → Q y z → R x z)
+    → (xs : List (Option X)) (ys : List (Option Y)) (zs : List (Option Z)) → Each P xs ys → Each Q ys zs → Each R xs zs
+each_then P Q R f [] [] [] h k = tt
+each_then P Q R f [] [] (z ∷ zs) h k = absurd k
+each_then P Q R f [] (y ∷ ys) zs h k = absurd h
+each_then P Q R f (x ∷ xs) [] zs h k = absurd h
+each_then P Q R f (x ∷ xs) (y ∷ ys) [] h k = absurd k
+each_then P Q R f (None ∷ xs) (None ∷ ys) (None ∷ zs) (a, h) (b, k) = (tt, each_then P Q R f xs ys zs h k)
+each_then P Q R f (None ∷ xs) (None ∷ ys) (Some z ∷ zs) (a, h) (b, k) = absurd b
+each_then P Q R f (None ∷ xs) (Some y ∷ ys) (z ∷ zs) (a, h) (b, k) = absurd a
+each_then P Q R f (Some x ∷ xs) (None ∷ ys) (z ∷ zs) (a, h) (b, k) = absurd a
+each_then P Q R f (Some x ∷ xs) (Some y ∷ ys) (None ∷ zs) (a, h) (b, k) = absurd b
+each_then P Q R f (Some x ∷ xs) (Some y ∷ ys) (Some z ∷ zs) (a, h) (b, k) = (f x y z a b, each_then P Q R f xs ys zs h k)
+
 pub each_by : {X Y : Type 0} (P : X → Y → Type 0) (xs : List (Option X)) (ys : List (Option Y)) → length xs ≡ length ys
     → ((i : ℕ) → i < length xs → Both P (get_or xs i None) (get_or ys i None)) → Each P xs ys
 each_by P [] [] e h = tt
 each_by P [] (y ∷ ys) e h = absurd (omega arith)
 each_by P (x ∷ xs) [] e h = absurd (omega arith)
 each_by P (x ∷ xs) (y ∷ ys) e h = (h 0 (omega arith), each_by P xs ys (omega arith) (λ i l. h (suc i) (omega arith)))
+
+pub by_tag_by : {X Y : Type 0} (f : X → Y) (xs : List (Option X)) (ys : List (Option Y)) → length xs ≡ length ys
+    → ((i : ℕ) → i < length xs → get_or ys i None ≡ on f (get_or xs i None)) → ys ≡ by_tag f xs
+by_tag_by f [] [] e h = refl
+by_tag_by f [] (y ∷ ys) e h = absurd (omega arith)
+by_tag_by f (x ∷ xs) [] e h = absurd (omega arith)
+by_tag_by f (x ∷ xs) (y ∷ ys) e h = ap₂ (λ z zs. z ∷ zs) (h 0 (omega arith)) (by_tag_by f xs ys (omega arith) (λ i l. h (suc i) (omega arith)))
 
 module _ {X Y : Type 0} (f : X → Y) where
   pub by_tag_long : (xs : List (Option X)) → length (by_tag f xs) ≡ length xs

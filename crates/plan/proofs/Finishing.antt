@@ -36,7 +36,7 @@ module _ (miss : Misses) (lawful : Lawful miss) (W R : ℕ) (ts : List (Option �
         let j = worst_is miss lawful W a.some a.most R ts a.targets a.room in
         omega (arith, level.first (worst_miss miss W R ts) j.holds, j.first E level.holds)
 
-    pub finished : (T : ℕ) (ds : List (Option ℕ)) → T ≡ noted_needs rs E → ds ≡ noted_weights miss W E rs → Finished miss W R ts ds E T
+    pub finished : (T : ℕ) (ds : List (Option ℕ)) → T ≡ noted_needs rs E → ds ≡ noted_weights miss E rs → Finished miss W R ts ds E T
     unfolding plan_weights
     finished T ds p q =
         let t : needs miss W E ts ≡ T = sym (p ∙ noted E) in

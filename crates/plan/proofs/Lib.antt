@@ -1,10 +1,12 @@
 pub mod ByTags
 pub mod Finishing
 pub mod LeastNumbers
+pub mod Mapped
 pub mod NearestLaws
 pub mod NeedLaws
 pub mod Noting
 pub mod Optimal
 pub mod Passing
 pub mod Picks
+pub mod Services
 pub mod Worked

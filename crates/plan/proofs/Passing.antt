@@ -1,5 +1,5 @@
 -- What is known once no ground fits.
-use Rattle.std.proofs.Common.{◌≡◌, ℕ, ◌^◌, ◌<◌, ◌≤◌, Bool, true, false, cond, eqb, ltb, List, Some, None, Option, sym, refl, subst, arith}
+use Rattle.std.proofs.Common.{◌≡◌, ℕ, ◌^◌, ◌<◌, ◌≤◌, Bool, true, false, cond, eqb, ltb, List, Some, None, Option, refl, arith}
 use Rattle.std.proofs.lemmas.Bool.Decides.{nat_tests}
 use Rattle.rules.specs.declared.refusal.Refusal.{Refusal}
 use Rattle.rules.specs.Grounds.{bad_width, limit_grounds}
@@ -45,7 +45,3 @@ admitted W R ts e =
     let a : bad_width W ≡ false = p.0 in
     let d : ltb R (services ts) ≡ false = r.0 in
     record { some = grind (arith, nat_tests); most = grind (arith, nat_tests); targets = none_above (2 ^ W) ts q.0; room = grind (arith, nat_tests) }
-
--- the same for a width that was kept
-pub admitted_as : (V W R : ℕ) (ts : List (Option ℕ)) → V ≡ W → None ≡ first (plan_grounds W R ts) → Admitted V R ts
-admitted_as V W R ts e h = subst (λ (X : ℕ). Admitted X R ts) (sym e) (admitted W R ts h)

@@ -7,7 +7,7 @@ ghost use Rattle.plan.specs.Nearest.{Nearest, nearest, better};
 use crate::measure::Measure;
 use rules::neighbours::neighbours;
 use rules::refusal::Refusal;
-use rules::width::Width;
+use rules::weight::Weight;
 
 // Of all weights with at most `limit` rules the one with the least miss, then the one closest to the target, then the smaller.
 pub fn nearest<E: Measure>(measure: &E, width: u32, target: u32, limit: u32) -> Result<u32, Refusal>
@@ -35,9 +35,9 @@ fn pick<E: Measure>(measure: &E, width: u32, target: u32, pair: (u32, u32)) -> u
 }
 
 // The same where there is nothing to refuse.
-pub(crate) fn nearest_within<E: Measure>(measure: &E, width: Width, target: u32, limit: u32) -> u32
-    requires { (target ≤ 2 ^ width.bits) × (0 < limit) }
-    ensures { result ≡ nearest (E.Measure.miss measure.now) width.bits target limit }
+pub(crate) fn nearest_within<E: Measure>(measure: &E, target: Weight, limit: u32) -> u32
+    requires { 0 < limit }
+    ensures { result ≡ nearest (E.Measure.miss measure.now) target.width.bits target.addresses limit }
 {
-    nearest(measure, width.bits(), target, limit).unwrap()
+    nearest(measure, target.width().bits(), target.addresses(), limit).unwrap()
 }

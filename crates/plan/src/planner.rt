@@ -4,7 +4,7 @@ ghost use Rattle.rules.specs.Refusals.{first, refusal};
 ghost use Rattle.plan.specs.Figures.{Figures};
 ghost use Rattle.plan.specs.Grounds.{plan_grounds};
 ghost use Rattle.plan.specs.Plans.{Plan, worst_miss, plan_weights, rule_total};
-ghost use Rattle.plan.specs.Reached.{NotedTargets, noted_weights};
+ghost use Rattle.plan.specs.Reached.{noted_weights};
 ghost use Rattle.plan.specs.Rivals.{Best};
 
 use crate::admission::admit;
@@ -14,7 +14,6 @@ use crate::planned::Planned;
 use crate::reach::Reach;
 use crate::sharing::{least_worst, reaches, rules_within};
 use rules::refusal::Refusal;
-use rules::width::Width;
 
 // The worst miss is the least at which all services together need no more rules than the memory has, and each gets the nearest weight with as
 // many rules as it needs for that. The targets stand by tag, None where there is no service.
@@ -32,11 +31,11 @@ pub fn plan<E: Measure>(
     ensures best { IfOk result (λ p. Best (E.Measure.miss measure.now) width capacity targets.now p.weights p.worst p.rules) }
     ensures figures { Figures }
 {
-    let width = admit(width, capacity, targets)?;
-    let reaches = reaches(measure, width, targets);
+    let targets = admit(width, capacity, targets)?;
+    let reaches = reaches(measure, &targets);
     let worst = least_worst(&reaches, capacity);
     let rules = rules_within(&reaches, worst);
-    let weights = weights(measure, width, &reaches, worst);
+    let weights = weights(measure, &reaches, worst);
     Ok(Planned {
         weights,
         worst,
@@ -45,21 +44,8 @@ pub fn plan<E: Measure>(
 }
 
 // The nearest weights with as many rules as each service needs to miss by at most `limit`.
-fn weights<E: Measure>(
-    measure: &E,
-    width: Width,
-    reaches: &[Option<Reach>; 64],
-    limit: u64,
-) -> [Option<u32>; 64]
-    requires { NotedTargets width.bits reaches.now }
-    ensures { result ≡ noted_weights (E.Measure.miss measure.now) width.bits limit reaches.now }
+fn weights<E: Measure>(measure: &E, reaches: &[Option<Reach>; 64], limit: u64) -> [Option<u32>; 64]
+    ensures { result ≡ noted_weights (E.Measure.miss measure.now) limit reaches.now }
 {
-    let mut all = [None; 64];
-    for i in 0..64usize {
-        all[i] = match reaches[i] {
-            Some(reach) => Some(nearest_within(measure, width, reach.target, reach.need(limit))),
-            None => None,
-        };
-    }
-    all
+    reaches.map(|reach| reach.map(|reach| nearest_within(measure, reach.target, reach.need(limit))))
 }

@@ -1,18 +1,10 @@
-use Rattle.std.proofs.Common.{arith}
-use Rattle.plan.proofs.ByTags.{total_some, total_none, total_all}
+use Rattle.std.proofs.Common.{◌∙◌}
+use Rattle.std.proofs.lemmas.Iterator.Consumers.{count_from_yields_List}
+use Rattle.plan.proofs.Services.{count_present, YieldsList-from_present}
 use Rattle.plan.proofs.admission.services.Goals as goal
-use Rattle.plan.proofs.admission.services.Goals.{in-Some, in_default}
-
-pub loop-target-preserved : goal.loop-target-preserved
-loop-target-preserved c =
-    elim c.match-target.branch [
-      | in-Some w ↦
-          let s = total_some c.args.targets.now c.loop-target.target-index (omega arith) (λ x. 1) w.in-Some.field-0 w.in-Some.is in
-          (omega (arith, w.count-is), omega (arith, w.count-is))
-      | in_default w ↦
-          let s = total_none c.args.targets.now c.loop-target.target-index (omega arith) (λ x. 1) w.in_default.is in
-          (omega (arith, w.count-is), omega (arith, w.count-is))
-    ]
 
 pub returns : goal.returns
-returns c = omega (arith, total_all (λ x. 1) c.args.targets.now c.loop-target.target-index (omega arith))
+returns c =
+    count_from_yields_List c.flatten.result c.count.result c.count.ensures.ran
+    (YieldsList-from_present _ (λ x j k. (k.0, k.1)) c.args.targets.now (cc) (cc) (cc) (cc))
+    ∙ count_present c.args.targets.now

@@ -1,20 +1,23 @@
-use Rattle.std.proofs.Common.{arith}
+use Rattle.std.proofs.Common.{ℕ, ◌∙◌, rules, tests, arith}
+use Rattle.std.proofs.lemmas.Iterator.{YieldsList-from_map}
+use Rattle.std.proofs.lemmas.Iterator.Adapters.{fits_from_length, at_most_from_yields_List}
+use Rattle.std.proofs.lemmas.Iterator.Consumers.{YieldsList-at, sum_by_from_yields_List}
+use Rattle.plan.specs.declared.reach.Reach.{Reach}
 use Rattle.plan.specs.Reached.{need_in}
-use Rattle.plan.proofs.ByTags.{total_some, total_none, total_all}
+use Rattle.plan.proofs.Services.{present_few, total_present, YieldsList-from_present}
 use Rattle.plan.proofs.sharing.rules_within.Goals as goal
-use Rattle.plan.proofs.sharing.rules_within.Goals.{in-Some, in_default}
 
-pub loop-reach-preserved : goal.loop-reach-preserved
-loop-reach-preserved c =
-    elim c.match-reach.branch [
-      | in-Some w ↦
-          let s = total_some c.args.reaches.now c.loop-reach.reach-index (omega arith) (λ x. need_in x.misses c.args.limit) w.in-Some.reach w.in-Some.is in
-          (omega (arith, w.sum-is), omega (arith, w.sum-is))
-      | in_default w ↦
-          let s = total_none c.args.reaches.now c.loop-reach.reach-index (omega arith) (λ x. need_in x.misses c.args.limit) w.in_default.is in
-          (omega (arith, w.sum-is), omega (arith, w.sum-is))
-    ]
+pub sum-requires-clause-fits : goal.sum-requires-clause-fits
+sum-requires-clause-fits c =
+    fits_from_length _ _ 64 _
+    (at_most_from_yields_List (YieldsList-at c.map.ensures.source (YieldsList-from_present _ (λ x j k. (k.0, k.1)) c.args.reaches.now (cc) (cc) (cc) (cc)))
+    (omega (arith, present_few c.args.reaches.now)))
+    c.map.ensures.closure (omega arith) (λ x r q k. search (rules, tests))
 
 pub returns : goal.returns
 returns c =
-    omega (arith, total_all (λ x. need_in x.misses c.args.limit) c.args.reaches.now c.loop-reach.reach-index (omega arith))
+    let need : Reach → ℕ = λ r. need_in r.misses c.args.limit in
+    sum_by_from_yields_List need _ c.map.result _ c.sum.ensures.ran
+    (YieldsList-from_map _ need (YieldsList-at c.map.ensures.source (YieldsList-from_present _ (λ x j k. (k.0, k.1)) c.args.reaches.now (cc) (cc) (cc) (cc)))
+    c.map.ensures.closure (λ x r q k. search (rules, tests)))
+    ∙ total_present need c.args.reaches.now
