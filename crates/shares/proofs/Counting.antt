@@ -1,5 +1,5 @@
 -- A table is counted, never refused.
-use Rattle.std.proofs.Common.{◌≡◌, ℕ, ◌+◌, ◌^◌, ◌≤◌, true, List, reverse, length, None, sym, ap, ◌∙◌, subst, ap₂, arith}
+use Rattle.std.proofs.Common.{◌≡◌, ℕ, ◌+◌, ◌^◌, ◌≤◌, true, refl, List, reverse, length, Some, None, Option, IsSome, MatchOption, sym, ap, ◌∙◌, subst, ap₂, arith}
 use Rattle.std.proofs.lemmas.List.{length-reverse}
 use Rattle.std.proofs.lemmas.Bool.Decides.{nat_tests}
 use Rattle.rules.specs.declared.rule.Rule.{Rule}
@@ -31,3 +31,8 @@ module _ (W d : ℕ) (rs back : List Rule) (e : back ≡ reverse rs) (t : Shorte
       let n : many ≡ L W d = m ∙ back_long in
       let z : over ≡ 0 = omega (arith, o, back_long, ap (L W) back_splits.exact) in
       ap₂ (λ (x y : ℕ). sum_line x y over) w n ∙ ap (λ (x : ℕ). sum_line d (L W d) x) z
+
+-- what is None only where P holds is there where P does not
+pub there : {X : Type 0} (o : Option X) (P : Type 0) (Q : X → Type 0) → (P → ⊥) → MatchOption o P Q → IsSome o
+there None P Q not_so p = absurd (not_so p)
+there (Some x) P Q not_so p = refl

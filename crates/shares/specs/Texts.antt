@@ -9,17 +9,18 @@ use Rattle.plan.specs.Nearest.{nearest}
 use Rattle.plan.specs.Plans.{services, beyond, worst_miss, plan_weights, rule_total}
 use Rattle.plan.specs.Relative.{relative}
 use Rattle.rules.specs.Grounds.{bad_width, weight_grounds, limit_grounds}
-use Rattle.rules.specs.Refusals.{refusal_number, Ground, ◌when◌, first}
-use Rattle.rules.specs.Servers.{server_number}
+use Rattle.rules.specs.Refusals.{Ground, ◌when◌, first}
 use Rattle.rules.specs.Shortest.{L}
 use Rattle.rules.specs.Tables.{table}
+use Rattle.rules.specs.Texts.{rule_text}
 use Rattle.shares.specs.declared.request.Request.{Request}
 use Rattle.shares.specs.declared.request.Request.TheVariants.{Table, Nearest, Plan}
+use Rattle.text.specs.Refused.{refusal_line}
 use Rattle.shares.specs.Requests.{Spelled, Unspelled}
 
 -- One rule: start, length and server.
 abbrev pub rule_line : Rule → List ℕ
-rule_line r = decimal r.start ++ (codes " " ++ (decimal r.length ++ (codes " " ++ (decimal (server_number r.server) ++ codes "\n"))))
+rule_line r = rule_text r ++ codes "\n"
 
 abbrev pub rule_lines : List Rule → List ℕ
 rule_lines [] = []
@@ -29,9 +30,6 @@ rule_lines (r ∷ rs) = rule_line r ++ rule_lines rs
 abbrev pub sum_line : ℕ → ℕ → ℕ → List ℕ
 sum_line weight rules over =
     codes "weight " ++ (decimal weight ++ (codes " rules " ++ (decimal rules ++ (codes " over " ++ (decimal over ++ codes "\n")))))
-
-abbrev pub refusal_line : Refusal → List ℕ
-refusal_line why = codes "no " ++ (decimal (refusal_number why) ++ codes "\n")
 
 -- A table is printed with exactly the weight asked for, the fewest rules, and none over.
 abbrev pub table_answer : ℕ → ℕ → Option Refusal → List ℕ

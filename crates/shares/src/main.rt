@@ -3,7 +3,6 @@
 
 mod nearest;
 mod plans;
-mod refused;
 mod report;
 mod request;
 mod tables;

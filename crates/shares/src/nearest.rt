@@ -6,7 +6,6 @@ ghost use Rattle.rules.specs.Refusals.{first, refusal};
 ghost use Rattle.rules.specs.Shortest.{L};
 ghost use Rattle.shares.specs.Texts.{near_line, nearest_answer};
 
-use crate::refused::refusal_text;
 use plan::even::Even;
 use plan::measure::Measure;
 use plan::nearest::nearest;
@@ -14,6 +13,7 @@ use plan::relative::Relative;
 use rules::fewest::fewest_rules;
 use rules::refusal::Refusal;
 use std::alloc::{AllocError, Global};
+use text::refused::refusal_text;
 
 // A line for each measure.
 pub(crate) fn nearest_text(
@@ -24,22 +24,16 @@ pub(crate) fn nearest_text(
 ) -> Result<String, AllocError>
     ensures { IfOk result (λ text. string_bytes text ≡ nearest_answer width target limit (first (limit_grounds width target limit))) }
 {
-    let even = match find_near(&Even, width, target, limit) {
+    let even = match Near::find(&Even, width, target, limit) {
         Ok(even) => even,
         Err(why) => return refusal_text(heap, why),
     };
-    let relative = match find_near(&Relative, width, target, limit) {
+    let relative = match Near::find(&Relative, width, target, limit) {
         Ok(relative) => relative,
         Err(why) => return refusal_text(heap, why),
     };
-    let mut text = near_text(heap, "even", even.weight, even.miss, even.rules)?;
-    let line = near_text(
-        heap,
-        "relative",
-        relative.weight,
-        relative.miss,
-        relative.rules,
-    )?;
+    let mut text = even.line(heap, "even")?;
+    let line = relative.line(heap, "relative")?;
     text.push_str(line.as_str())?;
     Ok(text)
 }
@@ -52,33 +46,30 @@ pub(crate) struct Near {
     rules: u32,
 }
 
-// The nearest weight under a measure.
-fn find_near<E: Measure>(measure: &E, width: u32, target: u32, limit: u32) -> Result<Near, Refusal>
-    ensures refused { refusal result ≡ first (limit_grounds width target limit) }
-    ensures weight { IfOk result (λ n. n.weight ≡ nearest_weight (E.Measure.miss measure.now) width target limit) }
-    ensures miss { IfOk result (λ n. n.miss ≡ E.Measure.miss measure.now width target n.weight) }
-    ensures rules { IfOk result (λ n. n.rules ≡ L width n.weight) }
-{
-    let weight = nearest(measure, width, target, limit)?;
-    let miss = measure.miss(width, target, weight);
-    match fewest_rules(width, weight) {
-        Ok(rules) => Ok(Near {
+impl Near {
+    // The nearest weight under a measure.
+    fn find<E: Measure>(measure: &E, width: u32, target: u32, limit: u32) -> Result<Self, Refusal>
+        ensures refused { refusal result ≡ first (limit_grounds width target limit) }
+        ensures weight { IfOk result (λ n. n.weight ≡ nearest_weight (E.Measure.miss measure.now) width target limit) }
+        ensures miss { IfOk result (λ n. n.miss ≡ E.Measure.miss measure.now width target n.weight) }
+        ensures rules { IfOk result (λ n. n.rules ≡ L width n.weight) }
+    {
+        let weight = nearest(measure, width, target, limit)?;
+        Ok(Near {
+            weight,
+            miss: measure.miss(width, target, weight),
+            rules: fewest_rules(width, weight).unwrap(),
+        })
+    }
+
+    fn line(self, heap: Global, name: &str) -> Result<String, AllocError>
+        ensures { IfOk result (λ text. string_bytes text ≡ near_line name.now self.weight self.miss self.rules) }
+    {
+        let Near {
             weight,
             miss,
             rules,
-        }),
-        Err(_) => unreachable(),
+        } = self;
+        format!(in heap; "{name} {weight} miss {miss} rules {rules}\n")
     }
-}
-
-fn near_text(
-    heap: Global,
-    name: &str,
-    weight: u32,
-    miss: u64,
-    rules: u32,
-) -> Result<String, AllocError>
-    ensures { IfOk result (λ text. string_bytes text ≡ near_line name.now weight miss rules) }
-{
-    format!(in heap; "{name} {weight} miss {miss} rules {rules}\n")
 }

@@ -7,7 +7,6 @@ ghost use Rattle.rules.specs.Refusals.{first, refusal};
 ghost use Rattle.rules.specs.Shortest.{L};
 ghost use Rattle.shares.specs.Texts.{tagged, services_grounds, plan_line, plan_lines, worst_line, plan_answer};
 
-use crate::refused::refusal_text;
 use plan::even::Even;
 use plan::planned::Planned;
 use plan::planner::plan;
@@ -15,6 +14,7 @@ use rules::fewest::fewest_rules;
 use rules::refusal::Refusal;
 use rules::width::Width;
 use std::alloc::{AllocError, Global};
+use text::refused::refusal_text;
 
 // A line for each service, and what the plan comes to.
 pub(crate) fn plan_text(

@@ -4,11 +4,11 @@ ghost use Rattle.shares.specs.Texts.{text_of, Answered};
 
 use crate::nearest::nearest_text;
 use crate::plans::plan_text;
-use crate::refused::refusal_text;
 use crate::request::{Request, read_request};
 use crate::tables::table_text;
 use rules::refusal::Refusal;
 use std::alloc::{AllocError, Global};
+use text::refused::refusal_text;
 
 // The words after the program's name, and the text that answers them.
 pub fn answer(heap: Global, words: &[String]) -> Result<String, AllocError>

@@ -2,7 +2,8 @@ use Rattle.std.proofs.Common.{◌≡◌, string_bytes}
 use Rattle.std.proofs.lemmas.Result.{IfOk-weaker}
 use Rattle.std.proofs.lemmas.Option.{MatchOption-at_some, MatchOption-at_none}
 use Rattle.rules.specs.declared.refusal.Refusal.TheVariants.{Unreadable}
-use Rattle.shares.specs.Texts.{text_of, refusal_line, to, unread}
+use Rattle.shares.specs.Texts.{text_of, to, unread}
+use Rattle.text.specs.Refused.{refusal_line}
 use Rattle.shares.proofs.report.answer.Goals as goal
 
 pub returns-in-Some : goal.returns-in-Some

@@ -1,17 +1,12 @@
-use Rattle.std.proofs.Common.{◌≡◌, ℕ, ◌<◌, ◌∙◌, arith}
-use Rattle.std.proofs.lemmas.Option.{MatchOption-at_none}
+use Rattle.std.proofs.Common.{ℕ, ◌<◌, Ok, IfOk, subst, arith}
+use Rattle.rules.specs.Counts.{Counted}
 use Rattle.rules.proofs.Blocks.{covered_none}
-use Rattle.shares.proofs.Counting.{countable}
+use Rattle.shares.proofs.Counting.{there}
 use Rattle.shares.proofs.tables.counted.Goals as goal
 
-pub unreachable-requires : goal.unreachable-requires
-unreachable-requires c =
-    let e = c.in-Err.ensures.refused ∙ countable c.args.width c.args.rules.now c.requires.width.0 c.requires.width.1 c.requires.few c.requires.fit in
-    let z : ◌≡◌ {A = ℕ} 0 1 = cc in
-    omega arith
-
-pub unreachable-requires-in-None : goal.unreachable-requires-in-None
-unreachable-requires-in-None c =
-    let k = c.in-Ok.ensures.counted in
-    let p : 0 < c.in-Ok.count.unmatched = MatchOption-at_none _ _ c.in-None.is k.excess in
-    omega (arith, k.unmatched, covered_none c.args.width c.args.rules.now c.requires.covers)
+pub unwrap-requires : goal.unwrap-requires
+unwrap-requires c =
+    let k : Counted c.args.width.bits c.args.rules.now c.unwrap-count.result =
+    subst (λ (W : ℕ). Counted W c.args.rules.now c.unwrap-count.result) c.bits.ensures
+    (subst (λ r. IfOk r (λ n. Counted c.bits.result c.args.rules.now n)) c.unwrap-count.ensures c.count_addresses.ensures.counted) in
+    there _ _ _ (λ (z : 0 < c.unwrap-count.result.unmatched). omega (arith, k.unmatched, covered_none c.args.width.bits c.args.rules.now c.requires.covers)) k.excess

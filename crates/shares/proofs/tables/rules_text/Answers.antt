@@ -1,15 +1,13 @@
-use Rattle.std.proofs.Common.{ℕ, List, ◌++◌, take, sym, ap, ◌∙◌, arith}
-use Rattle.std.proofs.lemmas.List.{take_all}
+use Rattle.std.proofs.Common.{List, ℕ, ◌++◌, get_or, codes, sym, ap, ◌∙◌, arith}
+use Rattle.rules.specs.declared.rule.Rule.{Rule}
 use Rattle.rules.specs.declared.server.Server.TheVariants.{One}
-use Rattle.shares.specs.Texts.{rule_lines}
+use Rattle.shares.specs.Texts.{rule_line}
 use Rattle.shares.proofs.Lines.{lines_more}
 use Rattle.shares.proofs.tables.rules_text.Goals as goal
 
 pub loop-rule-preserved : goal.loop-rule-preserved
 loop-rule-preserved c =
-    c.in_ok-push_str.ensures.bytes ∙ ap (λ (x : List ℕ). x ++ c.as_str.result.now) c.loop-rule.invariant
-    ∙ ap (λ (x : List ℕ). rule_lines (take c.loop-rule.rule-index c.args.rules.now) ++ x) (c.as_str.ensures.value ∙ c.in_ok-line.ensures)
-    ∙ sym (lines_more c.args.rules.now c.loop-rule.rule-index (record { start = 0; length = 0; server = One }) (omega arith))
-
-pub returns : goal.returns
-returns c = c.loop-rule.invariant ∙ ap rule_lines (take_all c.loop-rule.rule-index c.args.rules.now (omega arith))
+    let none : Rule = record { start = 0; length = 0; server = One } in
+    let rule = get_or c.args.rules.now c.loop-rule.rule-index none in
+    c.in_ok-writeln.ensures.bytes ∙ ap (λ (x : List ℕ). x ++ rule_line rule) c.loop-rule.invariant
+    ∙ sym (lines_more c.args.rules.now c.loop-rule.rule-index none (omega arith))
