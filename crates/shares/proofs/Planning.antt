@@ -1,7 +1,11 @@
 -- The lines of a plan, and services by their order.
-use Rattle.std.proofs.Common.{◌≡◌, ℕ, zero, suc, ◌+◌, ◌-◌, ◌^◌, ◌<◌, ◌≤◌, Bool, false, ltb, List, [], ◌∷◌, ◌++◌, map, length, get_or, take, drop, set, replicate, Some, None, Option, sym, refl, ap, ◌∙◌, subst, ap₂, append_assoc, arith}
+use Rattle.std.proofs.Common.{◌≡◌, ℕ, zero, suc, ◌+◌, ◌-◌, ◌^◌, ◌<◌, ◌≤◌, Bool, false, ltb, List, [], ◌∷◌, ◌++◌, map, length, get_or, replicate, Some, None, Option, ◌⊎◌, inl, inr, sym, refl, ap, ◌∙◌, subst, ap₂, arith, length-append}
+use native.Mathlib.Decide.{dec_le}
+use denote.Param.Members.{Mut, Called}
+use Rattle.std.specs.Array.{IsFromFnResultFrom, IsFromFnResult}
+use Rattle.std.specs.List.{slice_get}
 use Rattle.std.proofs.lemmas.Bool.{le-ltb}
-use Rattle.std.proofs.lemmas.List.{take_more, take_all, length-take-le, length-map, map-append, at_drop_all}
+use Rattle.std.proofs.lemmas.List.{length-map, length-replicate, same_lists, get_or_default}
 use Rattle.plan.specs.ByTag.{Every, Each}
 use Rattle.plan.specs.Grounds.{plan_grounds}
 use Rattle.plan.specs.Measures.{Misses}
@@ -14,56 +18,52 @@ use Rattle.shares.specs.Texts.{tagged, services_grounds, plan_line, plan_lines}
 
 -- ---- tags in order
 
-set_at : {X : Type 0} (xs : List X) (y v : X) (ys : List X) → set (xs ++ y ∷ ys) (length xs) v ≡ xs ++ v ∷ ys
-set_at [] y v ys = refl
-set_at (x ∷ xs) y v ys = ap (λ zs. x ∷ zs) (set_at xs y v ys)
+-- what `from_fn` gives, where no call changes the closure
+module _ {F B : Type 0} (g : Mut F (ℕ × Unit {0}) B) (R : ℕ → B → Type 0) (f : F)
+    (call : (i : ℕ) (y : B) (q : F) → Called g f (i, tt) y q → (q ≡ f) × R i y) where
+  filled_from : (ys : List B) (i n : ℕ) (p : F) → p ≡ f → IsFromFnResultFrom g p ys i n → (j : ℕ) (e : B) → i ≤ j → j < i + n → R j (get_or ys j e)
+  filled_from ys i zero p s m j e h k = absurd (omega arith)
+  filled_from ys i (suc n) p s (q, y, b, made, rest) j e h k =
+      go (dec_le j i) (λ l. filled_from ys (i + 1) n q here.0 rest j e l (omega arith))
+    where
+      here : (q ≡ f) × R i y
+      here = call i y q (subst (λ (v : F). Called g v (i, tt) y q) s made)
 
-abbrev pub so_far : List ℕ → ℕ → List (Option ℕ)
-so_far ts i = map Some (take i ts) ++ replicate (64 - i) None
+      go : Dec (j ≤ i) → (i + 1 ≤ j → R j (get_or ys j e)) → R j (get_or ys j e)
+      go (yes l) more = let z : i ≡ j = omega arith in subst (λ (v : ℕ). R v (get_or ys v e)) z (subst (λ (v : B). R i v) (sym (b.1 e)) here.1)
+      go (no l) more = more (omega arith)
 
-pub tag_more : (ts : List ℕ) (i : ℕ) → i < length ts → i < 64 → set (so_far ts i) i (Some (get_or ts i 0)) ≡ so_far ts (i + 1)
-tag_more ts i h k =
-    let xs : List (Option ℕ) = map Some (take i ts) in
-    let ys : List (Option ℕ) = replicate (64 - (i + 1)) None in
-    let r : replicate {A = Option ℕ} (64 - i) None ≡ None ∷ ys
-    = let n : 64 - i ≡ suc (64 - (i + 1)) = omega arith in ap (λ (m : ℕ). replicate {A = Option ℕ} m None) n in
-    let l : i ≡ length xs = sym (length-map (take i ts) Some ∙ length-take-le i ts (omega arith)) in
-    ap (λ (zs : List (Option ℕ)). set (xs ++ zs) i (Some (get_or ts i 0))) r
-    ∙ ap (λ (m : ℕ). set (xs ++ None ∷ ys) m (Some (get_or ts i 0))) l ∙ set_at xs None (Some (get_or ts i 0)) ys
-    ∙ sym (append_assoc xs (Some (get_or ts i 0) ∷ []) ys)
-    ∙ ap (λ (zs : List (Option ℕ)). zs ++ ys) (sym (ap (λ (zs : List ℕ). map Some zs) (take_more ts i 0 h) ∙ map-append Some (take i ts) (get_or ts i 0 ∷ [])))
+  pub filled_at : (ys : List B) (n : ℕ) → IsFromFnResult g f ys n → (e : B) (j : ℕ) → j < n → R j (get_or ys j e)
+  filled_at ys n m e j h = filled_from ys 0 n f refl m.each j e (omega arith) (omega arith)
 
-pub tagged_is : (ts : List ℕ) (i : ℕ) → i ≡ length ts → so_far ts i ≡ tagged ts
-tagged_is ts i e =
-    ap₂ (λ (xs : List ℕ) (m : ℕ). map Some xs ++ replicate {A = Option ℕ} (64 - m) None) (take_all i ts (omega arith)) e
+none_at : (k j : ℕ) → get_or (replicate {A = Option ℕ} k None) j None ≡ None
+none_at zero j = refl
+none_at (suc k) zero = refl
+none_at (suc k) (suc j) = none_at k j
+
+tagged_at : (ts : List ℕ) (k j : ℕ) → get_or (map Some ts ++ replicate {A = Option ℕ} k None) j None ≡ slice_get ts j
+tagged_at [] k j = none_at k j
+tagged_at (t ∷ ts) k zero = refl
+tagged_at (t ∷ ts) k (suc j) = tagged_at ts k j
+
+tagged_long : (ts : List ℕ) → length ts ≤ 64 → length (tagged ts) ≡ 64
+tagged_long ts h = omega (arith, length-append (map Some ts) (replicate {A = Option ℕ} (64 - length ts) None), length-map ts Some, length-replicate {A = Option ℕ} (64 - length ts) None)
+
+pub tagged_is : (ts : List ℕ) (ds : List (Option ℕ)) → length ts ≤ 64 → length ds ≡ 64 → ((i : ℕ) → i < 64 → get_or ds i None ≡ slice_get ts i) → ds ≡ tagged ts
+tagged_is ts ds few long h =
+    same_lists ds (tagged ts) (omega (arith, tagged_long ts few))
+    (λ k d l. get_or_default ds k d None l ∙ h k (omega arith) ∙ sym (tagged_at ts (64 - length ts) k)
+    ∙ get_or_default (tagged ts) k None d (omega (arith, tagged_long ts few)))
 
 -- ---- lines
 
-pub lines_some : (W : ℕ) (ts : List ℕ) (ds : List (Option ℕ)) (i d : ℕ) → i < length ts → i < length ds → get_or ds i None ≡ Some d
-    → plan_lines W (drop i ts) (drop i ds) ≡ plan_line (get_or ts i 0) d (L W d) ++ plan_lines W (drop (suc i) ts) (drop (suc i) ds)
-lines_some W [] ds i d h k e = absurd (omega arith)
-lines_some W (t ∷ ts) [] i d h k e = absurd (omega arith)
-lines_some W (t ∷ ts) (x ∷ ds) zero d h k e = ap (λ (o : Option ℕ). plan_lines W (t ∷ ts) (o ∷ ds)) e
-lines_some W (t ∷ ts) (x ∷ ds) (suc i) d h k e = lines_some W ts ds i d (omega arith) (omega arith) e
-
-pub lines_none : (W : ℕ) (ts : List ℕ) (ds : List (Option ℕ)) (i : ℕ) → i < length ts → i < length ds → get_or ds i None ≡ None
-    → plan_lines W (drop i ts) (drop i ds) ≡ plan_lines W (drop (suc i) ts) (drop (suc i) ds)
-lines_none W [] ds i h k e = absurd (omega arith)
-lines_none W (t ∷ ts) [] i h k e = absurd (omega arith)
-lines_none W (t ∷ ts) (x ∷ ds) zero h k e = ap (λ (o : Option ℕ). plan_lines W (t ∷ ts) (o ∷ ds)) e
-lines_none W (t ∷ ts) (x ∷ ds) (suc i) h k e = lines_none W ts ds i (omega arith) (omega arith) e
-
-pub lines_end : (W : ℕ) (ts : List ℕ) (ds : List (Option ℕ)) (i : ℕ) → length ts ≤ i → plan_lines W (drop i ts) ds ≡ []
-lines_end W ts ds i h = at_drop_all (λ xs. plan_lines W xs ds) ts i h
+pub lines_end : (W : ℕ) (ts : List ℕ) (ds : List (Option ℕ)) → (length ts ≡ 0) ⊎ (length ds ≡ 0) → plan_lines W ts ds ≡ []
+lines_end W [] ds h = refl
+lines_end W (t ∷ ts) [] h = refl
+lines_end W (t ∷ ts) (d ∷ ds) (inl e) = absurd (omega arith)
+lines_end W (t ∷ ts) (d ∷ ds) (inr e) = absurd (omega arith)
 
 -- ---- weights
-
-pub every_at : (P : ℕ → Type 0) (ds : List (Option ℕ)) (i d : ℕ) → Every P ds → i < length ds → get_or ds i None ≡ Some d → P d
-every_at P [] i d h k e = absurd (omega arith)
-every_at P (None ∷ ds) zero d h k e = let z : ◌≡◌ {A = ℕ} 0 1 = cc in absurd (omega arith)
-every_at P (Some x ∷ ds) zero d (h, hs) k e = let q : x ≡ d = cc in subst P q h
-every_at P (None ∷ ds) (suc i) d h k e = every_at P ds i d h (omega arith) e
-every_at P (Some x ∷ ds) (suc i) d (h, hs) k e = every_at P ds i d hs (omega arith) e
 
 pub each_inside : (miss : Misses) (W E : ℕ) (ts ds : List (Option ℕ)) → Each (Given miss W E) ts ds → Every (λ d. d ≤ 2 ^ W) ds
 each_inside miss W E [] [] h = tt
