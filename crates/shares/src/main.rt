@@ -14,10 +14,7 @@ use std::env;
 
 // Everything that is said about the answer is said of `report::answer`; here it is printed.
 fn main(rt: HostRuntime) -> anyhow::Result<()> {
-    let mut words = Vec::new(rt.alloc());
-    for word in env::args(&rt)?.skip(1) {
-        words.push(word)?;
-    }
+    let words: Vec<String> = env::args(&rt)?.skip(1).collect(rt.alloc())?;
     rt.print(answer(rt.alloc(), words.as_slice())?)?;
     Ok(())
 }

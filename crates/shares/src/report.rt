@@ -24,13 +24,16 @@ fn request_text(heap: Global, request: Request) -> Result<String, AllocError>
     ensures { IfOk result (λ text. string_bytes text ≡ text_of request) }
 {
     match request {
-        Request::Table(width, weight) => table_text(heap, width, weight),
-        Request::Nearest(width, target, limit) => nearest_text(heap, width, target, limit),
-        Request::Plan(width, capacity, targets) => plan_text(
-            heap,
+        Request::Table { width, weight } => table_text(heap, width, weight),
+        Request::Nearest {
+            width,
+            target,
+            limit,
+        } => nearest_text(heap, width, target, limit),
+        Request::Plan {
             width,
             capacity,
-            targets.as_slice(),
-        ),
+            targets,
+        } => plan_text(heap, width, capacity, targets.as_slice()),
     }
 }

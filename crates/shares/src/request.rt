@@ -7,12 +7,23 @@ use text::number::read_number;
 
 #[derive(Drop)]
 pub enum Request {
-    // The table of a width and a weight.
-    Table(u32, u32),
-    // The nearest weights of a width, a target and a rule limit.
-    Nearest(u32, u32, u32),
-    // The plan of a width, a capacity and the targets of the services with the tags 0, 1, ..
-    Plan(u32, u32, Vec<u32>),
+    // The table of a weight.
+    Table {
+        width: u32,
+        weight: u32,
+    },
+    // The nearest weights with so many rules.
+    Nearest {
+        width: u32,
+        target: u32,
+        limit: u32,
+    },
+    // The plan of the services with the tags 0, 1, ..
+    Plan {
+        width: u32,
+        capacity: u32,
+        targets: Vec<u32>,
+    },
 }
 
 // The request that the words spell, if they spell one.
@@ -43,32 +54,38 @@ fn request_of(heap: Global, order: &str, numbers: &[u32]) -> Result<Option<Reque
 fn table_of(numbers: &[u32]) -> Option<Request>
     ensures { MatchOption result (length numbers.now ≢ 2) (Spelled (codes "table" ∷ map decimal numbers.now)) }
 {
-    match numbers {
-        [width, weight] => Some(Request::Table(*width, *weight)),
-        _ => None,
-    }
+    let [width, weight] = *numbers else {
+        return None;
+    };
+    Some(Request::Table { width, weight })
 }
 
 // A width, a target and a rule limit.
 fn nearest_of(numbers: &[u32]) -> Option<Request>
     ensures { MatchOption result (length numbers.now ≢ 3) (Spelled (codes "nearest" ∷ map decimal numbers.now)) }
 {
-    match numbers {
-        [width, target, limit] => Some(Request::Nearest(*width, *target, *limit)),
-        _ => None,
-    }
+    let [width, target, limit] = *numbers else {
+        return None;
+    };
+    Some(Request::Nearest {
+        width,
+        target,
+        limit,
+    })
 }
 
 // A width, a capacity and any number of targets.
 fn plan_of(heap: Global, numbers: &[u32]) -> Result<Option<Request>, AllocError>
     ensures { IfOk result (λ o. MatchOption o (length numbers.now < 2) (Spelled (codes "plan" ∷ map decimal numbers.now))) }
 {
-    if numbers.len() < 2 {
+    let [width, capacity, targets @ ..] = numbers else {
         return Ok(None);
-    }
-    let (_, targets) = numbers.split_at(2);
-    let targets = Vec::from_slice(heap, targets)?;
-    Ok(Some(Request::Plan(numbers[0], numbers[1], targets)))
+    };
+    Ok(Some(Request::Plan {
+        width: *width,
+        capacity: *capacity,
+        targets: Vec::from_slice(heap, targets)?,
+    }))
 }
 
 // Each word is a number below 2^32 in decimal digits with no zero in front, or the whole is nothing.
