@@ -1,5 +1,5 @@
 -- The lines of a plan, and services by their order.
-use Rattle.std.proofs.Common.{◌≡◌, ℕ, zero, suc, ◌+◌, ◌-◌, ◌^◌, ◌<◌, ◌≤◌, Bool, false, ltb, List, [], ◌∷◌, ◌++◌, map, length, get_or, replicate, Some, None, Option, ◌⊎◌, inl, inr, sym, refl, ap, ◌∙◌, subst, ap₂, arith, length-append}
+use Rattle.std.proofs.Common.{◌≡◌, ℕ, zero, suc, ◌+◌, ◌-◌, ◌^◌, ◌<◌, ◌≤◌, Bool, false, ltb, List, [], ◌∷◌, ◌++◌, map, length, get_or, replicate, Some, None, Option, ◌⊎◌, inl, inr, sym, refl, ap, ◌∙◌, subst, arith, length-append}
 use native.Mathlib.Decide.{dec_le}
 use denote.Param.Members.{Mut, Called}
 use Rattle.std.specs.Array.{IsFromFnResultFrom, IsFromFnResult}
@@ -13,8 +13,7 @@ use Rattle.plan.specs.Plans.{Given, services, beyond}
 use Rattle.rules.specs.declared.refusal.Refusal.TheVariants.{WidthOutOfRange, TagOutOfRange, BeyondWidth, TooManyServices}
 use Rattle.rules.specs.Grounds.{bad_width}
 use Rattle.rules.specs.Refusals.{◌when◌, first}
-use Rattle.rules.specs.Shortest.{L}
-use Rattle.shares.specs.Texts.{tagged, services_grounds, plan_line, plan_lines}
+use Rattle.shares.specs.Texts.{tagged, services_grounds, plan_lines}
 
 -- ---- tags in order
 

@@ -1,5 +1,5 @@
 -- Words and the numbers that they spell.
-use Rattle.std.proofs.Common.{◌≡◌, ℕ, ◌+◌, ◌^◌, ◌<◌, ◌≤◌, List, [], ◌∷◌, ◌++◌, map, length, get_or, take, drop, Some, None, vec_items, codes, decimal, Option, sym, refl, ap, ◌∙◌, subst, arith, MatchOption}
+use Rattle.std.proofs.Common.{◌≡◌, ℕ, ◌+◌, ◌^◌, ◌<◌, ◌≤◌, List, [], ◌∷◌, ◌++◌, map, length, get_or, take, Some, None, vec_items, codes, decimal, Option, sym, refl, ap, ◌∙◌, subst, arith, MatchOption}
 use Rattle.std.specs.List.{AllByRecursion}
 use Rattle.std.proofs.ByRecursion.{All-get_or}
 use Rattle.std.proofs.lemmas.List.{take_more, map-append, length-map, get_or-map}
@@ -96,9 +96,3 @@ only_plan ns (Plan width capacity targets) e = omega arith
 pub few_numbers : (ns : List ℕ) (o : Option Request) (S : Request → Type 0) → MatchOption o (length ns < 2) S → MatchOption o (2 ≤ length ns → ⊥) S
 few_numbers ns None S h = λ k. omega arith
 few_numbers ns (Some q) S h = h
-
--- the first two, and those behind them
-pub two_ahead : (ns : List ℕ) → 2 ≤ length ns → ns ≡ get_or ns 0 0 ∷ get_or ns 1 0 ∷ drop 2 ns
-two_ahead [] h = absurd (omega arith)
-two_ahead (a ∷ []) h = absurd (omega arith)
-two_ahead (a ∷ b ∷ ns) h = refl

@@ -1,4 +1,4 @@
-use Rattle.std.proofs.Common.{ℕ, ◌<◌, Ok, IfOk, subst, arith}
+use Rattle.std.proofs.Common.{ℕ, ◌<◌, IfOk, subst, arith}
 use Rattle.rules.specs.Counts.{Counted}
 use Rattle.rules.proofs.Blocks.{covered_none}
 use Rattle.shares.proofs.Counting.{there}
