@@ -1,4 +1,3 @@
-pub mod Keeping
 pub mod Laws
 pub mod Parting
 pub mod Spelling

@@ -3,7 +3,6 @@
 
 pub mod command;
 pub mod console;
-pub mod filling;
 pub mod fitting;
 pub mod obey;
 mod obeying;

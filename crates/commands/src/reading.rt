@@ -93,10 +93,8 @@ fn two_numbers(text: &[u8]) -> Result<(u32, u32), Refusal>
 fn split_at_space(text: &[u8]) -> Result<(&[u8], &[u8]), Refusal>
     ensures { MatchResult result (λ parts. (text.now ≡ parts.0.now ++ 32 ∷ parts.1.now) × Without 32 parts.0.now) (λ why. (why ≡ Unreadable) × Without 32 text.now) }
 {
-    for (i, byte) in text.iter().enumerate() {
-        if *byte == b' ' {
-            return Ok((&text[..i], &text[i + 1..]));
-        }
-    }
-    Err(Refusal::Unreadable)
+    let Some(at) = text.iter().position(|byte| *byte == b' ') else {
+        return Err(Refusal::Unreadable);
+    };
+    Ok((&text[..at], &text[at + 1..]))
 }
