@@ -4,8 +4,6 @@
 pub mod command;
 pub mod console;
 pub mod fitting;
-pub mod obey;
-mod obeying;
 pub mod pending;
 pub mod reading;
 pub mod reply;
