@@ -2,7 +2,7 @@
 use Rattle.std.proofs.Common.{◌≡◌, ℕ, ◌+◌, ◌-◌, ◌*◌, ◌<◌, ◌≤◌, true, List, [], ◌∷◌, ◌++◌, length, take, drop, None, sym, ap, ◌∙◌, subst, append_assoc, arith}
 use borrow.Rule.Slice.PartMut.{put_mid}
 use Rattle.std.specs.List.{AllByRecursion}
-use Rattle.std.proofs.lemmas.List.{take-append-drop, drop-drop, append-nil}
+use Rattle.std.proofs.lemmas.List.{drop-drop}
 use Rattle.std.proofs.lemmas.Slice.{take-put_mid, drop-put_mid}
 use Rattle.std.proofs.lemmas.Bool.Decides.{nat_tests}
 use Rattle.rules.specs.declared.rule.Rule.{Rule}
@@ -47,12 +47,3 @@ module _ (at : ℕ) (table rest more : List Rule) (r : Rule) (out before put : L
       → AllByRecursion (λ q. q.length < 256) more × (at + 8 + 8 * length more ≡ 8 * length table)
       × (take (at + 8) (put_mid at (at + 8 - at) out put) ++ records_of more ≡ records_of table) × (drop (at + 8) (put_mid at (at + 8 - at) out put) ≡ drop (at + 8) before)
   turn inv = (small_more inv.0, count_more, written_more inv.2, kept_more inv.3)
-
--- and its end
-pub written_all : (at : ℕ) (table rest : List Rule) (out before : List ℕ) → rest ≡ [] → at + 8 * length rest ≡ 8 * length table
-    → take at out ++ records_of rest ≡ records_of table → drop at out ≡ drop at before → out ≡ records_of table ++ drop (8 * length table) before
-written_all at table rest out before n count w k =
-    let e : at ≡ 8 * length table = omega (arith, ap length n) in
-    sym (take-append-drop at out)
-    ∙ ap (λ (bs : List ℕ). bs ++ drop at out) (sym (append-nil (take at out)) ∙ ap (λ (rs : List Rule). take at out ++ records_of rs) (sym n) ∙ w)
-    ∙ ap (λ (bs : List ℕ). records_of table ++ bs) (k ∙ ap (λ (m : ℕ). drop m before) e)

@@ -47,9 +47,7 @@ fn write_rules(table: Table, out: &mut [u8])
     requires room { 8 * length (to_come table) ≤ length out.old }
     ensures { out.new ≡ records_of (to_come table) ++ drop (8 * length (to_come table)) out.old }
 {
-    let mut at = 0;
-    for rule in table {
-        out[at..at + 8].copy_from_slice(&record_bytes(rule));
-        at += 8;
+    for (place, rule) in table.enumerate() {
+        out[8 * place..8 * place + 8].copy_from_slice(&record_bytes(rule));
     }
 }
