@@ -1,8 +1,15 @@
 -- Records are read eight bytes after eight.
-use Rattle.std.proofs.Common.{◌≡◌, ℕ, ◌+◌, ◌*◌, ◌<◌, min, List, [], ◌∷◌, ◌++◌, length, Some, None, Option, sym, refl, ap, ◌∙◌, subst, ap₂, append_assoc, arith, length-append}
+use Rattle.std.proofs.Common.{◌≡◌, ℕ, ◌+◌, ◌*◌, ◌<◌, min, List, [], ◌∷◌, ◌++◌, length, Some, None, Ok, Option, sym, refl, ap, ◌∙◌, subst, ap₂, append_assoc, arith, length-append}
+use Rattle.std.specs.Option.{ok_or}
+use Rattle.rules.specs.declared.refusal.Refusal.TheVariants.{BrokenLayout}
 use Rattle.rules.specs.declared.rule.Rule.{Rule}
 use Rattle.controller.specs.Records.{rule_in, ahead, rules_in}
 use Rattle.controller.proofs.Inverse.{rule_long}
+
+-- a rule that was read
+pub read_ok : (o : Option Rule) (r : Rule) → Ok r ≡ ok_or o BrokenLayout → Some r ≡ o
+read_ok None r e = let z : ◌≡◌ {A = ℕ} 0 1 = cc in absurd (omega arith)
+read_ok (Some q) r e = cc
 
 -- rules behind others that are read already
 abbrev pub behind : List Rule → Option (List Rule) → Option (List Rule)
@@ -36,9 +43,6 @@ module _ (all rest x more : List ℕ) (rs : List Rule) (n : ℕ) (eight : n ≡ 
   next_piece : rules_in rest ≡ ahead (rule_in x) (rules_in more)
   next_piece =
       ap rules_in e ∙ piece x more (l ∙ ap₂ (λ (m : ℕ) (y : List ℕ). min m (length y)) eight e) (subst (λ (y : List ℕ). 0 < length y) e p)
-
-  pub read_none : None ≡ rule_in x → rules_in all ≡ None
-  read_none n = so_far ∙ ap (behind rs) (next_piece ∙ ap (λ (o : Option Rule). ahead o (rules_in more)) (sym n))
 
   pub read_one : (r : Rule) (longer : List Rule) → Some r ≡ rule_in x → longer ≡ rs ++ r ∷ [] → rules_in all ≡ behind longer (rules_in more)
   read_one r longer s t =

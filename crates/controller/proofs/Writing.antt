@@ -1,24 +1,21 @@
 -- Records are written one behind the other.
-use Rattle.std.proofs.Common.{◌≡◌, ℕ, ◌+◌, ◌-◌, ◌*◌, ◌<◌, ◌≤◌, true, List, [], ◌∷◌, ◌++◌, length, take, drop, None, sym, ap, ◌∙◌, subst, append_assoc, arith}
+use Rattle.std.proofs.Common.{◌≡◌, ℕ, ◌+◌, ◌-◌, ◌*◌, ◌<◌, ◌≤◌, true, List, [], ◌∷◌, ◌++◌, length, take, drop, sym, ap, ◌∙◌, subst, append_assoc, arith}
 use borrow.Rule.Slice.PartMut.{put_mid}
 use Rattle.std.specs.List.{AllByRecursion}
 use Rattle.std.proofs.lemmas.List.{drop-drop}
 use Rattle.std.proofs.lemmas.Slice.{take-put_mid, drop-put_mid}
 use Rattle.std.proofs.lemmas.Bool.Decides.{nat_tests}
 use Rattle.rules.specs.declared.rule.Rule.{Rule}
-use Rattle.rules.specs.Grounds.{weight_grounds}
 use Rattle.rules.specs.Prefixes.{fits, all_fit}
-use Rattle.rules.specs.Refusals.{first}
 use Rattle.controller.specs.Records.{record_of, records_of}
 use Rattle.controller.proofs.Inverse.{both}
 
 -- a table's lengths are bytes
-pub small : (W d : ℕ) (rs : List Rule) → None ≡ first (weight_grounds W d) → all_fit W rs ≡ true → AllByRecursion (λ r. r.length < 256) rs
-small W d [] n f = tt
-small W d (r ∷ rs) n f =
-    let w : W ≤ 24 = grind (arith, nat_tests) in
+pub small : (W : ℕ) (rs : List Rule) → W ≤ 24 → all_fit W rs ≡ true → AllByRecursion (λ r. r.length < 256) rs
+small W [] w f = tt
+small W (r ∷ rs) w f =
     let h : fits W r ≡ true = (both f).0 in
-    (grind (arith, nat_tests), small W d rs n (both f).1)
+    (grind (arith, nat_tests), small W rs w (both f).1)
 
 -- one turn of the writing: up to `at` the buffer has records of the table, the rules of `rest` are still to come, and the record of their first is put
 module _ (at : ℕ) (table rest more : List Rule) (r : Rule) (out before put : List ℕ) (s : rest ≡ r ∷ more) (p : put ≡ record_of r)

@@ -3,9 +3,8 @@ use Rattle.std.specs.Prelude.{◌≡◌, ℕ, ◌+◌, ◌*◌, ◌/◌, ◌%◌
 use Rattle.std.specs.List.{AllByRecursion}
 use Rattle.rules.specs.declared.rule.Rule.{Rule}
 use Rattle.rules.specs.declared.server.Server.{Server}
-use Rattle.rules.specs.declared.server.Server.TheVariants.{One, Two}
 use Rattle.rules.specs.Prefixes.{all_fit}
-use Rattle.rules.specs.Servers.{server_number}
+use Rattle.rules.specs.Servers.{server_number, server_of}
 
 -- The start in four bytes, the most significant first, then the length, the server's number and two zeros.
 abbrev pub record_of : Rule → List ℕ
@@ -19,7 +18,7 @@ records_of (r ∷ rs) = record_of r ++ records_of rs
 
 -- Reading goes the other way. A server by its number:
 abbrev pub server_in : ℕ → Option Server
-server_in n = cond (n == 1) (Some One) (cond (n == 2) (Some Two) None)
+server_in n = server_of n
 
 abbrev pub rule_to : ℕ → ℕ → Option Server → Option Rule
 rule_to s l None = None

@@ -1,6 +1,7 @@
 // The counter over the records of a list of rules.
-ghost use Rattle.std.specs.Prelude.{◌≡◌, ◌*◌, ◌≤◌, length, take, IfOk, Some, None, MatchOption};
+ghost use Rattle.std.specs.Prelude.{◌≡◌, ◌*◌, ◌≤◌, length, IfOk, Some, None, MatchResult};
 ghost use Rattle.rules.specs.Refusals.{first, refusal};
+ghost use Rattle.rules.specs.declared.refusal.Refusal.TheVariants.{BrokenLayout};
 ghost use Rattle.controller.specs.Answers.{Tallied, Read, count_of};
 ghost use Rattle.controller.specs.Grounds.{record_grounds};
 ghost use Rattle.controller.specs.Records.{rules_in, RecordLaws};
@@ -39,21 +40,17 @@ fn count_records(width: u32, records: &[u8]) -> Result<Count, Refusal>
         length: 0,
         server: Server::One,
     }; 1024];
-    let Some(count) = read_rules(records, &mut rules) else {
-        return Err(Refusal::BrokenLayout);
-    };
-    count_addresses(width, &rules[0..count])
+    let rules = read_rules(records, &mut rules)?;
+    count_addresses(width, rules)
 }
 
-// Reads the rules into the front of `rules`, and says how many they are; none where the bytes are no records.
-fn read_rules(records: &[u8], rules: &mut [Rule; 1024]) -> Option<usize>
+// Reads the rules into the front of `rules`, and hands that front back.
+fn read_rules<'a>(records: &[u8], rules: &'a mut [Rule; 1024]) -> Result<&'a [Rule], Refusal>
     requires { length records.now ≤ 8 * 1024 }
-    ensures { MatchOption result (rules_in records.now ≡ None) (λ n. (n ≤ 1024) × (rules_in records.now ≡ Some (take n rules.new))) }
+    ensures { MatchResult result (λ read. (length read.now ≤ 1024) × (rules_in records.now ≡ Some read.now)) (λ why. (why ≡ BrokenLayout) × (rules_in records.now ≡ None)) }
 {
-    let mut count = 0;
-    for bytes in records.chunks(8) {
-        rules[count] = read_rule(bytes)?;
-        count += 1;
+    for (place, bytes) in records.chunks(8).enumerate() {
+        rules[place] = read_rule(bytes)?;
     }
-    Some(count)
+    Ok(&rules[..records.len() / 8])
 }

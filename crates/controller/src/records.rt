@@ -1,7 +1,9 @@
 // A rule as a record of eight bytes, written and read.
-ghost use Rattle.std.specs.Prelude.{◌≡◌, ◌<◌};
-ghost use Rattle.controller.specs.Records.{record_of, rule_in, server_in};
+ghost use Rattle.std.specs.Prelude.{◌≡◌, ◌<◌, ok_or};
+ghost use Rattle.rules.specs.declared.refusal.Refusal.TheVariants.{BrokenLayout};
+ghost use Rattle.controller.specs.Records.{record_of, rule_in};
 
+use rules::refusal::Refusal;
 use rules::rule::Rule;
 use rules::server::Server;
 
@@ -13,27 +15,17 @@ pub(crate) fn record_bytes(rule: Rule) -> [u8; 8]
     [a, b, c, d, rule.length as u8, rule.server.number(), 0, 0]
 }
 
-// None where the bytes are no record.
-pub(crate) fn read_rule(bytes: &[u8]) -> Option<Rule>
-    ensures { result ≡ rule_in bytes.now }
+// Refused where the bytes are no record.
+pub(crate) fn read_rule(bytes: &[u8]) -> Result<Rule, Refusal>
+    ensures { result ≡ ok_or (rule_in bytes.now) BrokenLayout }
 {
     let [a, b, c, d, length, server, 0, 0] = bytes else {
-        return None;
+        return Err(Refusal::BrokenLayout);
     };
-    let server = server_numbered(*server)?;
-    Some(Rule {
+    let server = Server::try_from(*server)?;
+    Ok(Rule {
         start: u32::from_be_bytes([*a, *b, *c, *d]),
         length: u32::from(*length),
         server,
     })
-}
-
-fn server_numbered(number: u8) -> Option<Server>
-    ensures { result ≡ server_in number }
-{
-    match number {
-        1 => Some(Server::One),
-        2 => Some(Server::Two),
-        _ => None,
-    }
 }

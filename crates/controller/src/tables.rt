@@ -10,10 +10,9 @@ ghost use Rattle.controller.specs.Records.{records_of};
 
 use crate::answers::TableAnswer;
 use crate::records::record_bytes;
-use rules::fewest::fewest_rules;
 use rules::refusal::Refusal;
-use rules::shortest::shortest_table;
 use rules::table::Table;
+use rules::weight::Weight;
 
 // Writes the records of the table's rules, in the table's order, from the start of `out` on. Refused, nothing is written. A table has at most 13
 // rules, so 104 bytes always suffice.
@@ -33,12 +32,12 @@ fn write_table(width: u32, weight: u32, out: &mut [u8]) -> Result<u32, Refusal>
     ensures refused { refusal result ≡ first (table_grounds width weight (length out.old)) }
     ensures written { MatchResult result (λ n. Written width weight out.old out.new (table_of n)) (λ _. out.new ≡ out.old) }
 {
-    let rules = fewest_rules(width, weight)?;
+    let weight = Weight::new(width, weight)?;
+    let rules = weight.fewest_rules();
     if out.len() < 8 * rules as usize {
         return Err(Refusal::BufferTooShort);
     }
-    let table = shortest_table(width, weight)?;
-    write_rules(table, out);
+    write_rules(weight.table(), out);
     Ok(rules)
 }
 

@@ -5,8 +5,8 @@ use Rattle.controller.proofs.tables.write_table.Goals as goal
 
 pub write_rules-requires : goal.write_rules-requires
 write_rules-requires c =
-    let t = c.in_ok-table.ensures in
+    let t = c.table.ensures.shortest in
     record {
-      small = small c.args.width c.args.weight (to_come c.in_ok-table.table) t.refused t.shortest.fit;
-      room = omega (arith, t.shortest.long, c.in_ok-rules.ensures.count);
+      small = small c.in_ok-weight.weight.width.bits (to_come c.table.result) c.in_ok-weight.weight.width.most t.fit;
+      room = omega (arith, t.long);
     }
