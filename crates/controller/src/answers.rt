@@ -1,6 +1,7 @@
-// What the two calls answer, in a shape that C knows: numbers of 32 bits. A refusal of 0 says that the call was carried out.
+// What the two calls answer. Kept as numbers of 32 bits, with a flag beside the excess, and not as a Result and an Option: this is the shape that C
+// knows. A refusal of 0 says that the call was carried out.
 ghost use Rattle.std.specs.Prelude.{◌≡◌};
-ghost use Rattle.controller.specs.Answers.{no_table, no_count, table_of, count_of};
+ghost use Rattle.controller.specs.Answers.{no_table, no_count, count_of};
 
 use rules::counter::Count;
 use rules::refusal::Refusal;
@@ -13,26 +14,20 @@ pub struct TableAnswer {
     pub rules: u32,
 }
 
-impl TableAnswer {
-    pub(crate) fn refused(why: Refusal) -> Self
-        ensures { result ≡ no_table why }
-    {
+impl From<Refusal> for TableAnswer {
+    ghost from_gives = { λ why answer. answer ≡ no_table why };
+
+    fn from(why: Refusal) -> TableAnswer {
         TableAnswer {
             refusal: u32::from(why.number()),
             rules: 0,
         }
     }
-
-    pub(crate) fn written(rules: u32) -> Self
-        ensures { result ≡ table_of rules }
-    {
-        TableAnswer { refusal: 0, rules }
-    }
 }
 
 // The addresses of each server and those that no rule matches; `complete` is 1 where every address is matched, and only then there is an excess.
 #[repr(C)]
-#[derive(Clone, Copy, PartialEq, Eq, Debug)]
+#[derive(Clone, Copy, PartialEq, Eq, Debug, Default)]
 pub struct CountAnswer {
     pub refusal: u32,
     pub one: u32,
@@ -42,34 +37,28 @@ pub struct CountAnswer {
     pub excess: u32,
 }
 
-impl CountAnswer {
-    pub(crate) fn refused(why: Refusal) -> Self
-        ensures { result ≡ no_count why }
-    {
+impl From<Refusal> for CountAnswer {
+    ghost from_gives = { λ why answer. answer ≡ no_count why };
+
+    fn from(why: Refusal) -> CountAnswer {
         CountAnswer {
             refusal: u32::from(why.number()),
-            one: 0,
-            two: 0,
-            unmatched: 0,
-            complete: 0,
-            excess: 0,
+            ..CountAnswer::default()
         }
     }
+}
 
-    pub(crate) fn counted(count: Count) -> Self
-        ensures { result ≡ count_of count }
-    {
-        let (complete, excess) = match count.excess {
-            Some(excess) => (1, excess),
-            None => (0, 0),
-        };
+impl From<Count> for CountAnswer {
+    ghost from_gives = { λ count answer. answer ≡ count_of count };
+
+    fn from(count: Count) -> CountAnswer {
         CountAnswer {
             refusal: 0,
             one: count.one,
             two: count.two,
             unmatched: count.unmatched,
-            complete,
-            excess,
+            complete: u32::from(count.excess.is_some()),
+            excess: count.excess.unwrap_or(0),
         }
     }
 }

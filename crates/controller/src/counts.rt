@@ -21,8 +21,8 @@ pub extern "C" fn splitter_count(width: u32, records: &[u8]) -> CountAnswer
     ensures laws { RecordLaws }
 {
     match count_records(width, records) {
-        Ok(count) => CountAnswer::counted(count),
-        Err(why) => CountAnswer::refused(why),
+        Ok(count) => count.into(),
+        Err(why) => why.into(),
     }
 }
 

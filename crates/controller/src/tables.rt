@@ -22,8 +22,8 @@ pub extern "C" fn splitter_table(width: u32, weight: u32, out: &mut [u8]) -> Tab
     ensures most { width ≤ 24 → weight ≤ 2 ^ width → L width weight ≤ 13 }
 {
     match write_table(width, weight, out) {
-        Ok(rules) => TableAnswer::written(rules),
-        Err(why) => TableAnswer::refused(why),
+        Ok(rules) => TableAnswer { refusal: 0, rules },
+        Err(why) => why.into(),
     }
 }
 
