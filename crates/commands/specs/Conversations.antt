@@ -14,7 +14,7 @@ use Rattle.commands.specs.Texts.{ok_line, seen_line, refusal_line}
 
 -- The text of a reply, where the listing is that of weights ds at width W.
 abbrev pub text_of : ℕ → List (Option ℕ) → Result Reply Refusal → List ℕ
-text_of W ds (Ok (Settled worst rules steps)) = ok_line worst rules steps
+text_of W ds (Ok (Settled o)) = ok_line o.worst o.rules o.steps
 text_of W ds (Ok (Seen s)) = seen_line s
 text_of W ds (Ok Listing) = listing W ds
 text_of W ds (Err why) = refusal_line why

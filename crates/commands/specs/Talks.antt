@@ -24,12 +24,12 @@ unless None x = Ok x
 unless (Some why) x = Err why
 
 abbrev pub settled : Forecast → Reply
-settled f = Settled f.worst f.rules f.steps
+settled f = Settled (record { worst = f.worst; rules = f.rules; steps = f.steps })
 
 -- The reply to each command, where `None` says that no switch was made yet. Nothing but a making is read then.
 module _ (miss : Misses) (ceiling : ℕ) where
   abbrev pub reply_to : Option Model → Command → Result Reply Refusal
-  reply_to t (Make W R) = unless (first (make_grounds ceiling W R)) (Settled 0 0 0)
+  reply_to t (Make W R) = unless (first (make_grounds ceiling W R)) (Settled (record { worst = 0; rules = 0; steps = 0 }))
   reply_to None (Place o) = Err Unreadable
   reply_to None (Look t a) = Err Unreadable
   reply_to None Listed = Err Unreadable

@@ -1,7 +1,7 @@
 // Commands: what one line of a console can ask for. Any numbers may be handed in.
 use model::order::Order;
 
-#[derive(Clone, Copy)]
+#[derive(Clone, Copy, PartialEq, Eq, Debug)]
 pub enum Command {
     // A switch of so many address bits, in a memory of so many rules.
     Make { width: u32, capacity: u32 },

@@ -7,9 +7,9 @@ ghost use Rattle.commands.specs.Agreed.{Obeys, Made};
 ghost use Rattle.commands.specs.declared.command.Command.TheVariants.{Make, Place, Look};
 
 use crate::command::Command;
-use crate::fitting::Fitting;
-use crate::reply::Reply;
+use crate::reply::{Outcome, Reply};
 use crate::settling::settle;
+use memory::fitting::Fitting;
 use memory::reader::Reader;
 use memory::rule_memory::RuleMemory;
 use model::order::Order;
@@ -63,11 +63,11 @@ impl<M: Fitting> Console<M> {
     {
         let state = self.begin(width, capacity)?;
         self.run(state);
-        Ok(Reply::Settled {
+        Ok(Reply::Settled(Outcome {
             worst: 0,
             rules: 0,
             steps: 0,
-        })
+        }))
     }
 
     // A new switch in the fitted memory, beside the one that is running.
@@ -79,7 +79,7 @@ impl<M: Fitting> Console<M> {
             return Err(Refusal::AboveCeiling);
         }
         let _ = Width::new(width)?;
-        self.memory.refit(capacity)?;
+        self.memory.fit(capacity)?;
         let resting = make(width, &mut self.register, &self.memory)?;
         Ok(State::Resting(resting))
     }

@@ -3,7 +3,6 @@
 
 pub mod command;
 pub mod console;
-pub mod fitting;
 pub mod pending;
 pub mod reading;
 pub mod reply;

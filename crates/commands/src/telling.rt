@@ -1,5 +1,5 @@
 // Replies told as text.
-ghost use Rattle.std.specs.Prelude.{◌≡◌, ◌++◌, string_bytes, OnOk};
+ghost use Rattle.std.specs.Prelude.{◌≡◌, ◌++◌, OnOk, OnErr};
 ghost use Rattle.switch.specs.Listings.{listing};
 ghost use Rattle.commands.specs.Conversations.{text_of};
 
@@ -13,47 +13,31 @@ use switch::register::Register;
 // No listing is longer than this.
 const PAGE: usize = 36_864;
 
-// Writes the text of a reply behind what is written already.
+// Writes the text of a reply behind what is written already, or nothing where memory runs out.
 pub fn tell(
     heap: Global,
     register: &Register,
     reply: Result<Reply, Refusal>,
     out: &mut Vec<u8>,
 ) -> Result<(), AllocError>
-    ensures { OnOk result (out.new.items ≡ out.old.items ++ text_of register.now.width.bits register.now.weights reply) }
+    ensures told { OnOk result (out.new.items ≡ out.old.items ++ text_of register.now.width.bits register.now.weights reply) }
+    ensures kept { OnErr result (out.new.items ≡ out.old.items) }
 {
-    match reply {
-        Ok(
-            Reply::Settled {
-                worst,
-                rules,
-                steps,
-            },
-        ) => { append(ok_text(heap, worst, rules, steps)?, out) }
-        Ok(Reply::Seen(server)) => append(seen_text(heap, server)?, out),
-        Ok(Reply::Listing) => append_listing(register, out),
-        Err(why) => append(refusal_text(heap, why)?, out),
-    }
-}
-
-fn append(text: String, out: &mut Vec<u8>) -> Result<(), AllocError>
-    ensures { OnOk result (out.new.items ≡ out.old.items ++ string_bytes text) }
-{
-    append_bytes(text.as_bytes(), out)
-}
-
-fn append_bytes(bytes: &[u8], out: &mut Vec<u8>) -> Result<(), AllocError>
-    ensures { OnOk result (out.new.items ≡ out.old.items ++ bytes.now) }
-{
-    out.extend_from_slice(bytes)
+    let text = match reply {
+        Ok(Reply::Settled(outcome)) => ok_text(heap, outcome)?,
+        Ok(Reply::Seen(server)) => seen_text(heap, server)?,
+        Ok(Reply::Listing) => return append_listing(register, out),
+        Err(why) => refusal_text(heap, why)?,
+    };
+    out.extend_from_slice(text.as_bytes())
 }
 
 fn append_listing(register: &Register, out: &mut Vec<u8>) -> Result<(), AllocError>
-    ensures { OnOk result (out.new.items ≡ out.old.items ++ listing register.now.width.bits register.now.weights) }
+    ensures told { OnOk result (out.new.items ≡ out.old.items ++ listing register.now.width.bits register.now.weights) }
+    ensures kept { OnErr result (out.new.items ≡ out.old.items) }
 {
-    let mut page = [0u8; PAGE];
-    match list(register, &mut page) {
-        Ok(used) => append_bytes(&page[0..used], out),
-        Err(_) => unreachable(),
-    }
+    // Kept as a page with its used length beside: `list` writes to the front of a slice of its caller's.
+    let mut page = [0; PAGE];
+    let used = list(register, &mut page).unwrap();
+    out.extend_from_slice(&page[..used])
 }

@@ -6,33 +6,42 @@ use model::order::Order;
 use rules::refusal::Refusal;
 use std::process::Abort;
 
-// The command that was read, by its letter and its numbers.
-fn seen(answer: Result<Command, Refusal>) -> Result<(char, u32, u32), Refusal> {
-    match answer? {
-        Command::Make { width, capacity } => Ok(('m', width, capacity)),
-        Command::Place(Order::Enter { tag, target }) => Ok(('e', tag, target)),
-        Command::Place(Order::Reweigh { tag, target }) => Ok(('r', tag, target)),
-        Command::Place(Order::Withdraw { tag }) => Ok(('w', tag, 0)),
-        Command::Look { tag, address } => Ok(('l', tag, address)),
-        Command::List => Ok(('p', 0, 0)),
-    }
-}
-
 fn is_refused(rt: &impl Abort, line: &[u8]) {
-    assert_eq!(rt; seen(read_line(line)), Err(Refusal::Unreadable));
+    assert_eq!(rt; read_line(line), Err(Refusal::Unreadable));
 }
 
 #[test]
 fn orders(rt: HostRuntime) {
-    assert_eq!(rt; seen(read_line(b"m 8 5\n")), Ok(('m', 8, 5)));
-    assert_eq!(rt; seen(read_line(b"e 3 51\n")), Ok(('e', 3, 51)));
     assert_eq!(rt;
-        seen(read_line(b"r 0 4294967295\n")),
-        Ok(('r', 0, 4_294_967_295))
+        read_line(b"m 8 5\n"),
+        Ok(Command::Make {
+            width: 8,
+            capacity: 5
+        })
     );
-    assert_eq!(rt; seen(read_line(b"w 63\n")), Ok(('w', 63, 0)));
-    assert_eq!(rt; seen(read_line(b"l 3 200\n")), Ok(('l', 3, 200)));
-    assert_eq!(rt; seen(read_line(b"p\n")), Ok(('p', 0, 0)));
+    assert_eq!(rt;
+        read_line(b"e 3 51\n"),
+        Ok(Command::Place(Order::Enter { tag: 3, target: 51 }))
+    );
+    assert_eq!(rt;
+        read_line(b"r 0 4294967295\n"),
+        Ok(Command::Place(Order::Reweigh {
+            tag: 0,
+            target: 4_294_967_295
+        }))
+    );
+    assert_eq!(rt;
+        read_line(b"w 63\n"),
+        Ok(Command::Place(Order::Withdraw { tag: 63 }))
+    );
+    assert_eq!(rt;
+        read_line(b"l 3 200\n"),
+        Ok(Command::Look {
+            tag: 3,
+            address: 200
+        })
+    );
+    assert_eq!(rt; read_line(b"p\n"), Ok(Command::List));
 }
 
 #[test]
@@ -60,10 +69,10 @@ fn byte_by_byte(rt: HostRuntime) {
     assert!(rt; pending.line().is_some());
     pending.push(b'\n');
     assert!(rt; pending.line().is_none());
-    assert_eq!(rt; seen(pending.read()), Err(Refusal::Unreadable));
+    assert_eq!(rt; pending.read(), Err(Refusal::Unreadable));
     pending.clear();
     pending.push(b'p');
     pending.push(b'\n');
     assert!(rt; !pending.is_empty());
-    assert_eq!(rt; seen(pending.read()), Ok(('p', 0, 0)));
+    assert_eq!(rt; pending.read(), Ok(Command::List));
 }

@@ -11,7 +11,7 @@ returns-in_err-changing-2 g c = λ W R ts h.
     let v : View = view g.M.Reader.held_at g.M.Reader.size g.M.RuleMemory.limit c.args.memory.now in
     let placed = c.in_ok-draft.ensures in
     let way = under_way miss W R ts c.args.order c.args.resting d (desk c.accept.new.register) v h c.in_ok-draft.draft placed.refused placed.state
-    c.in_ok-changing.changing c.in_ok-changing.ensures.refused c.accept.ensures.register c.forecast-forecast.result c.forecast-forecast.ensures in
+    c.in_ok-changing.changing c.accept.ensures.register c.forecast-forecast.result c.forecast-forecast.ensures in
     absurd (c.in_err-changing-2.ensures miss W R ts c.args.order way)
 
 pub returns-in_err-resting : goal.returns-in_err-resting
@@ -21,10 +21,10 @@ returns-in_err-resting g c = λ W R ts h.
     let v : View = view g.M.Reader.held_at g.M.Reader.size g.M.RuleMemory.limit c.args.memory.now in
     let placed = c.in_ok-draft.ensures in
     let way = under_way miss W R ts c.args.order c.args.resting d (desk c.accept.new.register) v h c.in_ok-draft.draft placed.refused placed.state
-    c.in_ok-changing.changing c.in_ok-changing.ensures.refused c.accept.ensures.register c.forecast-forecast.result c.forecast-forecast.ensures in
+    c.in_ok-changing.changing c.accept.ensures.register c.forecast-forecast.result c.forecast-forecast.ensures in
     absurd (never_open miss W R ts c.args.order c.in_ok-changing-2.changing (desk c.take_steps.new.register) (desk c.close.new.register)
     (view g.M.Reader.held_at g.M.Reader.size g.M.RuleMemory.limit c.take_steps.new.memory) (c.in_ok-changing-2.ensures miss W R ts c.args.order way) c.close.ensures.register
-    c.in_err-resting.field-0.0 c.in_err-resting.ensures.refused)
+    c.in_err-resting.ensures.refused)
 
 pub returns : goal.returns
 returns g c = λ W R ts h.
@@ -34,7 +34,7 @@ returns g c = λ W R ts h.
     let placed = c.in_ok-draft.ensures in
     let told = draws miss W R ts c.args.order c.args.resting d v h c.in_ok-draft.draft placed.refused placed.state in
     let way = under_way miss W R ts c.args.order c.args.resting d (desk c.accept.new.register) v h c.in_ok-draft.draft placed.refused placed.state
-    c.in_ok-changing.changing c.in_ok-changing.ensures.refused c.accept.ensures.register c.forecast-forecast.result c.forecast-forecast.ensures in (
+    c.in_ok-changing.changing c.accept.ensures.register c.forecast-forecast.result c.forecast-forecast.ensures in (
       told.free,
       c.forecast-forecast.ensures ∙ told.tells,
       closes miss W R ts c.args.order c.in_ok-changing-2.changing (desk c.take_steps.new.register) (desk c.close.new.register)
