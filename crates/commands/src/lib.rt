@@ -7,7 +7,7 @@ pub mod pending;
 pub mod reading;
 pub mod reply;
 pub mod settling;
-mod telling;
+pub mod telling;
 #[cfg(test)]
 mod tests;
 pub mod texts;
