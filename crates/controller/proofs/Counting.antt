@@ -1,5 +1,5 @@
 -- What the counter says of the rules in some bytes.
-use Rattle.std.proofs.Common.{◌≡◌, ℕ, suc, ◌<◌, ◌≤◌, true, List, [], ◌∷◌, length, get_or, IfOk, Some, None, Ok, Err, Result, refl, ap, arith}
+use Rattle.std.proofs.Common.{◌≡◌, ℕ, suc, ◌<◌, true, List, [], ◌∷◌, get_or, IfOk, Some, None, Ok, Err, Result, refl, arith}
 use Rattle.std.specs.List.{AllByRecursion}
 use Rattle.std.proofs.lemmas.Bool.Decides.{nat_tests}
 use Rattle.rules.specs.declared.counter.Count.{Count}
@@ -10,8 +10,7 @@ use Rattle.rules.specs.Grounds.{count_grounds}
 use Rattle.rules.specs.Prefixes.{all_fit}
 use Rattle.rules.specs.Refusals.{first, refusal}
 use Rattle.controller.specs.Answers.{Read, count_of}
-use Rattle.controller.specs.Grounds.{record_grounds}
-use Rattle.controller.specs.Records.{rules_in, fitting}
+use Rattle.controller.specs.Records.{rules_in}
 use Rattle.controller.proofs.Inverse.{record_laws}
 
 all_bytes : (bs : List ℕ) → ((i : ℕ) → get_or bs i 0 < 256) → AllByRecursion (λ b. b < 256) bs
@@ -19,9 +18,6 @@ all_bytes [] h = tt
 all_bytes (b ∷ bs) h = (h 0, all_bytes bs (λ i. h (suc i)))
 
 module _ (W : ℕ) (bytes : List ℕ) (rs : List Rule) (e : rules_in bytes ≡ Some rs) where
-  pub same_grounds : length bytes ≤ 8192 → length rs ≤ 1024 → first (count_grounds W rs) ≡ first (record_grounds W bytes)
-  same_grounds few short = let k = ap (fitting W) e in grind (arith, nat_tests, k)
-
   all_fitting : None ≡ first (count_grounds W rs) → all_fit W rs ≡ true
   all_fitting n = grind (arith, nat_tests)
 

@@ -1,11 +1,6 @@
-use Rattle.std.proofs.Common.{◌∙◌, arith}
-use Rattle.controller.proofs.Counting.{same_grounds, read_and_counted}
+use Rattle.std.proofs.Common.{arith}
+use Rattle.controller.proofs.Counting.{read_and_counted}
 use Rattle.controller.proofs.counts.count_records.Goals as goal
-
-pub returns-clause-refused : goal.returns-clause-refused
-returns-clause-refused c =
-    let read = c.in_ok-rules.ensures in
-    c.count_addresses.ensures.refused ∙ same_grounds c.args.width c.args.records.now c.in_ok-rules.rules.now read.1 (omega arith) read.0
 
 pub returns-clause-counted : goal.returns-clause-counted
 returns-clause-counted c =
