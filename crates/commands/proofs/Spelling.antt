@@ -19,10 +19,7 @@ tail : List ℕ → List ℕ
 tail [] = []
 tail (x ∷ xs) = xs
 
--- the line of a letter with one number or two, from its fields and back
-pub with_one : (l k : ℕ) (fields : List ℕ) (n : ℕ) → l ≡ k → fields ≡ decimal n → l ∷ 32 ∷ (fields ++ 10 ∷ []) ≡ k ∷ 32 ∷ (decimal n ++ 10 ∷ [])
-with_one l k fields n e f = ap₂ (λ (x : ℕ) (xs : List ℕ). x ∷ 32 ∷ (xs ++ 10 ∷ [])) e f
-
+-- the line of a letter with two numbers, from its fields and back
 pub with_two : (l k : ℕ) (fields : List ℕ) (m n : ℕ) → l ≡ k → fields ≡ decimal m ++ 32 ∷ decimal n
     → l ∷ 32 ∷ (fields ++ 10 ∷ []) ≡ k ∷ 32 ∷ (decimal m ++ 32 ∷ [] ++ decimal n ++ 10 ∷ [])
 with_two l k fields m n e f = ap₂ (λ (x : ℕ) (xs : List ℕ). x ∷ 32 ∷ (xs ++ 10 ∷ [])) e (f ∙ sym (append_assoc (decimal m) (32 ∷ []) (decimal n)))
