@@ -9,6 +9,7 @@ use rules::refusal::Refusal;
 use text::number::read_number;
 
 // The command that a line spells, its line feed included. Every other line is unreadable.
+#[tactic(auto, using(crate::proofs::Laws::lawful))]
 pub fn read_line(line: &[u8]) -> Result<Command, Refusal>
     ensures meaning { Reads line.now result }
     ensures small { IfOk result Small }

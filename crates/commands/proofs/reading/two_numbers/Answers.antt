@@ -1,4 +1,4 @@
-use Rattle.std.proofs.Common.{◌≡◌, ℕ, ◌^◌, ◌<◌, List, ◌∷◌, ◌++◌, decimal, sym, refl, ◌∙◌, subst, ap₂, lit<}
+use Rattle.std.proofs.Common.{◌≡◌, ℕ, ◌^◌, ◌<◌, List, ◌∷◌, ◌++◌, decimal, sym, refl, ◌∙◌, subst, lit<}
 use Rattle.std.proofs.lemmas.Result.{err_from_is_err_and}
 use Rattle.commands.specs.Lines.{Without}
 use Rattle.commands.proofs.Parting.{decimal_without, same_parts, not_without}
@@ -25,8 +25,3 @@ pub returns-in_default-read_number : goal.returns-in_default-read_number
 returns-in_default-read_number c =
     let s = c.in_ok-front.ensures in
     (refl, λ m n h k e. c.in_default-read_number.ensures n k (parts _ _ _ m n s.0 s.1 h e).1)
-
-pub returns : goal.returns
-returns c =
-    c.in_ok-front.ensures.0
-    ∙ ap₂ (λ (xs ys : List ℕ). xs ++ 32 ∷ ys) c.in-Some.ensures c.in-Some-read_number.ensures

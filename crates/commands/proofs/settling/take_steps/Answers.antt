@@ -29,9 +29,3 @@ returns-in_err-changing g c = λ miss W R ts o h.
     let v' : View = view g.M.Reader.held_at g.M.Reader.size g.M.RuleMemory.limit c.step.new.memory in
     absurd (never_stuck miss W R ts o left pos c.loop-taken.changing d d' v v' (c.loop-taken.invariant miss W R ts o h) (g.met.M.Reader.counted c.loop-taken.memory)
     c.step.ensures.register c.step.ensures.held c.step.ensures.limit c.in_err-changing.field-0.0 c.in_err-changing.ensures.refused)
-
-pub returns : goal.returns
-returns g c = λ miss W R ts o h.
-    let none : c.args.steps - c.loop-taken._taken ≡ 0 = omega (arith, c.loop-taken-test.false) in
-    subst (λ (n : ℕ). Kept miss (model W R ts (changing o n)) (state.Changing c.loop-taken.changing) (desk c.loop-taken.register) (view g.M.Reader.held_at g.M.Reader.size g.M.RuleMemory.limit c.loop-taken.memory))
-    none (c.loop-taken.invariant miss W R ts o h)
