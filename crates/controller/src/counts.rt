@@ -15,6 +15,7 @@ use rules::server::Server;
 use rules::width::Width;
 
 // Counts what the rules of the records do with all addresses; they may stand in any order, and the first that matches an address decides.
+#[tactic(auto, using(crate::proofs::Inverse::record_laws))]
 #[unsafe(no_mangle)]
 pub extern "C" fn splitter_count(width: u32, records: &[u8]) -> CountAnswer
     ensures answered { Tallied width records.now result (first (record_grounds width records.now)) }

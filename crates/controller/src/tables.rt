@@ -16,6 +16,7 @@ use rules::weight::Weight;
 
 // Writes the records of the table's rules, in the table's order, from the start of `out` on. Refused, nothing is written. A table has at most 13
 // rules, so 104 bytes always suffice.
+#[tactic(auto, using(rules::proofs::Fewness::L_most))]
 #[unsafe(no_mangle)]
 pub extern "C" fn splitter_table(width: u32, weight: u32, out: &mut [u8]) -> TableAnswer
     ensures answered { Tabled width weight out.old out.new result (first (table_grounds width weight (length out.old))) }
