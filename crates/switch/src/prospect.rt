@@ -56,7 +56,6 @@ pub(crate) fn foresee<E: Measure>(
 // The targets once the order is carried out.
 pub(crate) fn apply(targets: [Option<u32>; 64], order: Order) -> [Option<u32>; 64]
     ensures value { result ≡ coming order targets }
-    ensures long { length result ≡ 64 }
 {
     match order {
         Order::Enter { tag, target } | Order::Reweigh { tag, target } => {
@@ -67,8 +66,7 @@ pub(crate) fn apply(targets: [Option<u32>; 64], order: Order) -> [Option<u32>; 6
 }
 
 fn with_target(mut targets: [Option<u32>; 64], tag: u32, target: Option<u32>) -> [Option<u32>; 64]
-    ensures value { result ≡ slice_set targets tag target }
-    ensures long { length result ≡ 64 }
+    ensures { result ≡ slice_set targets tag target }
 {
     if tag > 63 {
         return targets;

@@ -49,7 +49,8 @@ impl<'a> Tables<'a> {
         Tables { width, weights }
     }
 
-    // The server that the table of a tag has at a prefix, if it has the prefix.
+    // The server that the table of a tag has at a prefix, if it has the prefix. It is a loop and no `find`, since a closure that keys a rule would have
+    // to be told that the rule fits.
     #[tactic(auto, unfolding(model::specs::Keyed::rules_of))]
     pub(crate) fn server_at(self, tag: u32, prefix: Prefix) -> Option<Server>
         ensures { result ≡ at (listed (rules_of self.entry.width.bits self.entry.weights.now tag)) prefix }
