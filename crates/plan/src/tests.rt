@@ -117,15 +117,12 @@ fn ends_are_exact(rt: HostRuntime) -> Result<(), Fail> {
 #[test]
 fn plan_refuses(rt: HostRuntime) {
     assert_eq!(rt;
-        plan(&Even, 25, 0, &two(1, 1)).err(),
-        Some(Refusal::WidthOutOfRange)
+        plan(&Even, 25, 0, &two(1, 1)),
+        Err(Refusal::WidthOutOfRange)
     );
+    assert_eq!(rt; plan(&Even, 8, 0, &two(1, 257)), Err(Refusal::BeyondWidth));
     assert_eq!(rt;
-        plan(&Even, 8, 0, &two(1, 257)).err(),
-        Some(Refusal::BeyondWidth)
-    );
-    assert_eq!(rt;
-        plan(&Even, 8, 1, &two(1, 256)).err(),
-        Some(Refusal::TooManyServices)
+        plan(&Even, 8, 1, &two(1, 256)),
+        Err(Refusal::TooManyServices)
     );
 }

@@ -1,4 +1,4 @@
-use Rattle.std.proofs.Common.{ℕ, sym, subst}
+use Rattle.std.proofs.Common.{ℕ}
 use Rattle.plan.specs.Measures.{Misses}
 use Rattle.plan.specs.Nearest.{Nearest, nearest}
 use Rattle.plan.proofs.NearestLaws.{nearest_is, nearest_one}
@@ -15,8 +15,7 @@ returns g c =
     let found = c.in_ok-pair.ensures in
     let k = limited W t n found.refused in
     let i : Nearest m W t n c.pick.result =
-    subst (λ (x : ℕ). Nearest m W t n x) (sym c.pick.ensures)
-    (better_nearest m (g.met.E.Measure.lawful c.args.measure.now) W t n _ _ k.some k.most k.target found.lighter found.heavier) in
+    rw c.pick.ensures (better_nearest m (g.met.E.Measure.lawful c.args.measure.now) W t n _ _ k.some k.most k.target found.lighter found.heavier) in
     record {
       refused = found.refused;
       value = nearest_one m W t n c.pick.result (nearest m W t n) i (nearest_is m W t n k.limit);
