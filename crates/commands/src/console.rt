@@ -3,7 +3,7 @@ ghost use Rattle.std.specs.Prelude.{◌≡◌, ℕ, Some, None};
 ghost use Rattle.plan.specs.Measures.{Misses, Lawful};
 ghost use Rattle.switch.specs.Calls.{fresh};
 ghost use Rattle.switch.specs.Desks.{desk, view};
-ghost use Rattle.commands.specs.Agreed.{Obeys, Made};
+ghost use Rattle.commands.specs.Agreed.{ConsoleObeys, Made};
 ghost use Rattle.commands.specs.declared.command.Command.TheVariants.{Make, Place, Look};
 
 use crate::command::Command;
@@ -44,7 +44,7 @@ impl<M: Fitting> Console<M> {
 
     // Carries out a command. Nothing but a making is read before one was accepted; a refusal leaves everything as it was.
     pub fn obey<E: Measure>(&mut self, measure: &E, command: Command) -> Result<Reply, Refusal>
-        ensures { Obeys (E.Measure.miss measure.now) (M.Fitting.most self.old.memory) command self.old.running (desk self.old.register) (view M.Reader.held_at M.Reader.size M.RuleMemory.limit self.old.memory) result self.new.running (desk self.new.register) (view M.Reader.held_at M.Reader.size M.RuleMemory.limit self.new.memory) }
+        ensures { ConsoleObeys M.Reader.held_at M.Reader.size M.RuleMemory.limit (E.Measure.miss measure.now) (M.Fitting.most self.old.memory) command self.old self.new result }
     {
         match command {
             Command::Make { width, capacity } => self.make_anew(width, capacity),
@@ -59,7 +59,7 @@ impl<M: Fitting> Console<M> {
 
     // Fits the memory and makes a switch, both or neither. The one that was running is let go only then.
     fn make_anew(&mut self, width: u32, capacity: u32) -> Result<Reply, Refusal>
-        ensures { (miss : Misses) → Lawful miss → Obeys miss (M.Fitting.most self.old.memory) (Make width capacity) self.old.running (desk self.old.register) (view M.Reader.held_at M.Reader.size M.RuleMemory.limit self.old.memory) result self.new.running (desk self.new.register) (view M.Reader.held_at M.Reader.size M.RuleMemory.limit self.new.memory) }
+        ensures { (miss : Misses) → Lawful miss → ConsoleObeys M.Reader.held_at M.Reader.size M.RuleMemory.limit miss (M.Fitting.most self.old.memory) (Make width capacity) self.old self.new result }
     {
         let state = self.begin(width, capacity)?;
         self.run(state);
@@ -86,7 +86,7 @@ impl<M: Fitting> Console<M> {
 
     // Runs an order to rest.
     fn place<E: Measure>(&mut self, order: Order, measure: &E) -> Result<Reply, Refusal>
-        ensures { (ceiling : ℕ) → Obeys (E.Measure.miss measure.now) ceiling (Place order) self.old.running (desk self.old.register) (view M.Reader.held_at M.Reader.size M.RuleMemory.limit self.old.memory) result self.new.running (desk self.new.register) (view M.Reader.held_at M.Reader.size M.RuleMemory.limit self.new.memory) }
+        ensures { (ceiling : ℕ) → ConsoleObeys M.Reader.held_at M.Reader.size M.RuleMemory.limit (E.Measure.miss measure.now) ceiling (Place order) self.old self.new result }
     {
         match self.running.take() {
             Some(State::Resting(resting)) => {
@@ -117,7 +117,7 @@ impl<M: Fitting> Console<M> {
 
     // The server of an address.
     fn see(&self, tag: u32, address: u32) -> Result<Reply, Refusal>
-        ensures { (miss : Misses) (ceiling : ℕ) → Obeys miss ceiling (Look tag address) self.now.running (desk self.now.register) (view M.Reader.held_at M.Reader.size M.RuleMemory.limit self.now.memory) result self.now.running (desk self.now.register) (view M.Reader.held_at M.Reader.size M.RuleMemory.limit self.now.memory) }
+        ensures { (miss : Misses) (ceiling : ℕ) → ConsoleObeys M.Reader.held_at M.Reader.size M.RuleMemory.limit miss ceiling (Look tag address) self.now self.now result }
     {
         if self.running.is_none() {
             return Err(Refusal::Unreadable);
