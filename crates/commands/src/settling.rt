@@ -32,7 +32,7 @@ pub fn settle<M: RuleMemory, E: Measure>(
     Ok((resting, forecast))
 }
 
-// Kept as a loop: a closure of `try_fold` would alter the register and the memory that it captures, of which nothing were known behind it.
+// Kept as a loop: a closure of `try_fold` would alter the register and the memory that it captures, and nothing would be known of them afterwards.
 fn take_steps<M: RuleMemory>(
     mut changing: Changing,
     steps: u32,
