@@ -1,5 +1,5 @@
 -- A text that is written into a buffer part by part, each part behind those already there.
-use Rattle.std.proofs.Common.{◌≡◌, ℕ, ◌+◌, ◌-◌, ◌≤◌, List, [], ◌++◌, length, take, drop, sym, ap, ◌∙◌, append_assoc, arith}
+use Rattle.std.proofs.Common.{◌≡◌, ℕ, ◌+◌, ◌-◌, ◌≤◌, List, [], ◌++◌, length, take, drop, sym, refl, ap, ◌∙◌, append_assoc, arith}
 use borrow.Rule.Slice.PartMut.{put_mid}
 use Rattle.std.proofs.lemmas.List.{append-nil, length-append, length-drop, length-take-le, take-append-drop, take_at, take_all, take_rest, drop_at, drop_all, drop-drop}
 use Rattle.switch.specs.Listings.{over, behind}
@@ -25,6 +25,9 @@ pub record Filled (text o : List ℕ) (used : ℕ) (left out : List ℕ) : Type 
   pub within : used ≤ length text
   pub to_write : drop used text ≡ left
   pub bytes : out ≡ take used text ++ drop used o
+
+pub filled_none : (text o : List ℕ) → Filled text o 0 text o
+filled_none text o = record { within = omega arith; to_write = refl; bytes = refl }
 
 module _ (text o ys more out : List ℕ) (used : ℕ) (f : Filled text o used (ys ++ more) out) where
   split : text ≡ (take used text ++ ys) ++ more

@@ -1,14 +1,15 @@
 -- The lines of a listing, rule by rule.
-use Rattle.std.proofs.Common.{◌≡◌, ℕ, ◌+◌, ◌-◌, ◌<◌, ◌≤◌, List, [], ◌∷◌, ◌++◌, map, length, take, drop, Some, None, Option, slice_index_or, sym, refl, ap, ◌∙◌, ap₂, append_assoc, arith}
+use Rattle.std.proofs.Common.{◌≡◌, ℕ, suc, ◌+◌, ◌-◌, ◌<◌, ◌≤◌, List, [], ◌∷◌, ◌++◌, map, length, take, drop, Some, None, Option, slice_index_or, sym, refl, ap, ◌∙◌, ap₂, append_assoc, arith}
 use borrow.Rule.Slice.PartMut.{put_mid}
 use Rattle.std.specs.List.{flat_map}
 use Rattle.std.proofs.lemmas.List.{map-append, length-append, length-map, take_at, drop_at, drop-drop}
 use Rattle.std.proofs.lemmas.List.Folds.{flat_map-map}
+use Rattle.std.proofs.lemmas.Grind.{flat_map-append}
 use Rattle.std.proofs.lemmas.Bool.Decides.{nat_tests}
 use Rattle.rules.specs.declared.refusal.Refusal.TheVariants.{BufferTooShort}
 use Rattle.rules.specs.declared.rule.Rule.{Rule}
 use Rattle.rules.specs.Refusals.{first}
-use Rattle.model.specs.Keyed.{tags, table_of}
+use Rattle.model.specs.Keyed.{from, tags, table_of}
 use Rattle.switch.specs.declared.tables.TaggedRule.{TaggedRule}
 use Rattle.switch.specs.Listings.{Standing, under, standing_of, standing, line, lines, trailer, text_of, listing, over, list_grounds}
 use Rattle.switch.specs.Tabled.{tagged, tagged_of, tagged_rules}
@@ -43,6 +44,37 @@ module _ (W : ℕ) (ds : List (Option ℕ)) where
 
   pub count_is : length (tagged_rules W ds) ≡ length (standing W ds)
   count_is = sym (length-map (tagged_rules W ds) as_standing) ∙ ap length standing_is
+
+-- ---- one service after the other
+
+module _ (W : ℕ) (ds : List (Option ℕ)) where
+  -- the rules of the tags from i on
+  pub from_tag : ℕ → List Standing
+  from_tag i = flat_map (standing_of W ds) (from (64 - i) i)
+
+  pub lines_all : lines (from_tag 0) ≡ lines (standing W ds)
+  unfolding from_tag standing tags
+  lines_all = refl
+
+  tag_more : (i : ℕ) → i < 64 → from_tag i ≡ standing_of W ds i ++ from_tag (i + 1)
+  unfolding from_tag from
+  tag_more i h =
+      let n : 64 - i ≡ suc (64 - (i + 1)) = omega arith in
+      let s : suc i ≡ i + 1 = omega arith in
+      ap (λ (m : ℕ). flat_map (standing_of W ds) (from m i)) n
+      ∙ ap (λ (j : ℕ). standing_of W ds i ++ flat_map (standing_of W ds) (from (64 - (i + 1)) j)) s
+
+  pub lines_more : (i : ℕ) → i < 64 → lines (from_tag i) ≡ lines (standing_of W ds i) ++ lines (from_tag (i + 1))
+  lines_more i h = ap lines (tag_more i h) ∙ flat_map-append line (standing_of W ds i) (from_tag (i + 1))
+
+  pub lines_none : (i : ℕ) → 64 ≤ i → lines (from_tag i) ≡ []
+  unfolding from_tag from
+  lines_none i h = let n : 64 - i ≡ 0 = omega arith in ap (λ (m : ℕ). lines (flat_map (standing_of W ds) (from m i))) n
+
+  -- the rules of one service are those of its table
+  pub service_is : (t : ℕ) (rs : List Rule) → rs ≡ table_of W (slice_index_or ds t None) → map (under t) rs ≡ standing_of W ds t
+  unfolding standing_of
+  service_is t rs e = ap (map (under t)) e
 
 -- ---- the whole text
 

@@ -2,13 +2,14 @@
 ghost use Rattle.std.specs.Prelude.{◌≡◌, ◌+◌, ◌≤◌, ◌++◌, length, take, IfOk, MatchResult};
 ghost use Rattle.arrayvec.specs.ArrayVec.{array_vec_len};
 ghost use Rattle.rules.specs.Refusals.{first, refusal};
-ghost use Rattle.switch.specs.Listings.{under, standing, numbered, line, lines, trailer, listing, over, list_grounds, ReadBack};
+ghost use Rattle.switch.specs.Listings.{under, standing_of, standing, numbered, line, lines, trailer, listing, over, list_grounds, ReadBack};
 
 use crate::register::Register;
-use crate::tables::{Tables, TaggedRule};
+use crate::tables::Tables;
 use arrayvec::ArrayVec;
 use itoa::Buffer;
 use rules::refusal::Refusal;
+use rules::rule::Rule;
 
 // How many bytes some lines take, and how many lines they are.
 #[derive(Clone, Copy)]
@@ -46,21 +47,37 @@ fn measure(tables: Tables) -> Extent
     let mut bytes = 0;
     let mut count = 0;
     for rule in tables.rules() {
-        bytes += line(rule).len() as u32;
+        bytes += line(rule.tag, rule.rule).len() as u32;
         count += 1;
     }
     Extent { bytes, count }
 }
 
-// The lines of all rules: each is lent the free rest of the buffer.
+// The lines of all services: the writer of one service's lines is lent the free rest of the buffer, from its middle.
 fn write_lines(out: &mut [u8], tables: Tables) -> usize
     requires { length (lines (standing tables.width.bits tables.weights.now)) ≤ length out.old }
     ensures value { result ≡ length (lines (standing tables.entry.width.bits tables.entry.weights.now)) }
     ensures bytes { out.new ≡ over (lines (standing tables.entry.width.bits tables.entry.weights.now)) out.old }
 {
     let mut used = 0;
-    for rule in tables.rules() {
-        let line = line(rule);
+    for tag in 0..64 {
+        used += write_service(&mut out[used..], tables, tag);
+    }
+    used
+}
+
+// The lines of one service, in table order.
+fn write_service(out: &mut [u8], tables: Tables, tag: u32) -> usize
+    requires { length (lines (standing_of tables.width.bits tables.weights.now tag)) ≤ length out.old }
+    ensures value { result ≡ length (lines (standing_of tables.entry.width.bits tables.entry.weights.now tag)) }
+    ensures bytes { out.new ≡ over (lines (standing_of tables.entry.width.bits tables.entry.weights.now tag)) out.old }
+{
+    let Some(table) = tables.table(tag) else {
+        return 0;
+    };
+    let mut used = 0;
+    for rule in table {
+        let line = line(tag, rule);
         used += write(&mut out[used..], &line);
     }
     used
@@ -76,10 +93,9 @@ fn write(out: &mut [u8], text: &[u8]) -> usize
     text.len()
 }
 
-fn line(rule: TaggedRule) -> ArrayVec<u8, 44>
-    ensures { result.items ≡ line (under rule.tag rule.rule) }
+fn line(tag: u32, rule: Rule) -> ArrayVec<u8, 44>
+    ensures { result.items ≡ line (under tag rule) }
 {
-    let TaggedRule { tag, rule, .. } = rule;
     let mut text = ArrayVec::new();
     push_number(&mut text, tag, b' ');
     push_number(&mut text, rule.start, b' ');

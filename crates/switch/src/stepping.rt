@@ -7,7 +7,7 @@ ghost use Rattle.switch.specs.Desks.{desk, underway, view};
 
 use crate::change::Change;
 use crate::register::Register;
-use crate::state::{Changing, Refused};
+use crate::state::{Changing, Refused, hand_back};
 use crate::steps::nth_write;
 use crate::tables::Tables;
 use memory::reader::Reader;
@@ -28,13 +28,8 @@ pub fn step<M: RuleMemory>(
     ensures limit { M.RuleMemory.limit memory.new ≡ M.RuleMemory.limit memory.old }
     ensures state { MatchResult result (λ c. c ≡ changing) (λ e. e.state ≡ changing) }
 {
-    match advance(register, memory) {
-        Ok(()) => Ok(changing),
-        Err(why) => Err(Refused {
-            state: changing,
-            why,
-        }),
-    }
+    let ((), changing) = hand_back(advance(register, memory), changing)?;
+    Ok(changing)
 }
 
 fn advance<M: RuleMemory>(register: &mut Register, memory: &mut M) -> Result<(), Refusal>
