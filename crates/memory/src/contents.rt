@@ -55,6 +55,7 @@ pub fn remove_all<M: RuleMemory>(memory: &mut M, prefixes: &[Prefix]) -> u32
     ensures limit { M.RuleMemory.limit memory.new ≡ M.RuleMemory.limit memory.old }
 {
     let before = memory.count();
+    // Kept as a loop: after a chain whose closure writes to the memory, a proof would know nothing of it.
     for prefix in prefixes {
         let _ = memory.remove(*prefix);
     }

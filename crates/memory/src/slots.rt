@@ -37,6 +37,7 @@ impl Row {
         ensures { result.rule ≡ rule }
     {
         let end = u64::from(rule.prefix.value) + breadth(rule.prefix.length);
+        // Kept as a cast, here and below: it is proved to lose nothing, and a conversion that can fail would be unwrapped.
         Row {
             rule,
             last: (end - 1) as u32,

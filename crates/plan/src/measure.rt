@@ -17,7 +17,8 @@ pub trait Measure {
 // The largest miss, 2^40. Kept as a number, and no None: the law of all measures speaks of it, and its numbers compare.
 pub const FARTHEST: u64 = 1_099_511_627_776;
 
-// How many addresses there are, where all three numbers are in range.
+// How many addresses there are, where all three numbers are in range. Each measure asks for it at its start. Kept as a call of their own: what
+// they do with the number differs, and `miss` is the one method that the law speaks of.
 pub(crate) fn addresses(width: u32, target: u32, weight: u32) -> Option<u32>
     ensures { result ≡ (if in_range width target weight then Some (2 ^ width) else None) }
 {

@@ -75,6 +75,7 @@ fn write_service(out: &mut [u8], tables: Tables, tag: u32) -> usize
     let Some(table) = tables.table(tag) else {
         return 0;
     };
+    // Kept as a count of the bytes in use: it says where the rest of the lent buffer begins.
     let mut used = 0;
     for rule in table {
         let line = line(tag, rule);

@@ -17,7 +17,7 @@ use plan::measure::Measure;
 use rules::refusal::Refusal;
 
 // Makes a switch and carries out every call, its answer at the same place. Refused before anything is touched where there are fewer places than
-// calls; then as the making is.
+// calls; then as the making is. The places are kept as a slice beside the calls: the caller lends them, and nothing is allocated.
 pub fn run<M: RuleMemory, E: Measure>(
     measure: &E,
     register: &mut Register,
