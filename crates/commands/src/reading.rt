@@ -66,7 +66,7 @@ fn read_order(letter: u8, fields: &[u8]) -> Result<Command, Refusal>
     }
 }
 
-// One number below 2^32, and nothing else.
+// One number below 2^32, and nothing else. Each number field is taken by its own `let .. else`.
 fn one_number(text: &[u8]) -> Result<u32, Refusal>
     ensures { MatchResult result (λ n. text.now ≡ decimal n) (λ why. (why ≡ Unreadable) × ((n : ℕ) → n < 2 ^ 32 → text.now ≢ decimal n)) }
 {

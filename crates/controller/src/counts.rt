@@ -36,6 +36,7 @@ fn count_records(width: u32, records: &[u8]) -> Result<Count, Refusal>
     if records.len() > 8 * 1024 {
         return Err(Refusal::RuleCountOutOfRange);
     }
+    // Kept as an array: an `ArrayVec` fills its free places with defaults, and a rule has none.
     let mut rules = [Rule {
         start: 0,
         length: 0,

@@ -42,6 +42,7 @@ fn write_table(width: u32, weight: u32, out: &mut [u8]) -> Result<u32, Refusal>
     Ok(rules)
 }
 
+// Kept as a write by place: of a buffer that is written through the chunks that it lends, only the length would be known afterwards.
 fn write_rules(table: Table, out: &mut [u8])
     requires small { AllByRecursion (λ rule. rule.length < 256) (to_come table) }
     requires room { 8 * length (to_come table) ≤ length out.old }
