@@ -19,46 +19,46 @@ pub fn read_line(line: &[u8]) -> Result<Command, Refusal>
         return Err(Refusal::Unreadable);
     };
     match words {
-        [letter] => read_alone(*letter),
-        [letter, b' ', fields @ ..] => read_order(*letter, fields),
+        [letter] => read_alone(*letter as char),
+        [letter, b' ', fields @ ..] => read_order(*letter as char, fields),
         _ => Err(Refusal::Unreadable),
     }
 }
 
 // A letter with nothing behind it.
-fn read_alone(letter: u8) -> Result<Command, Refusal>
+fn read_alone(letter: char) -> Result<Command, Refusal>
     ensures meaning { Reads (letter ∷ 10 ∷ []) result }
     ensures small { IfOk result Small }
 {
     match letter {
-        b'p' => Ok(Command::List),
+        'p' => Ok(Command::List),
         _ => Err(Refusal::Unreadable),
     }
 }
 
 // A letter, and the number fields behind it.
-fn read_order(letter: u8, fields: &[u8]) -> Result<Command, Refusal>
+fn read_order(letter: char, fields: &[u8]) -> Result<Command, Refusal>
     ensures meaning { Reads (letter ∷ 32 ∷ (fields.now ++ 10 ∷ [])) result }
     ensures small { IfOk result Small }
 {
     match letter {
-        b'm' => {
+        'm' => {
             let (width, capacity) = two_numbers(fields)?;
             Ok(Command::Make { width, capacity })
         }
-        b'e' => {
+        'e' => {
             let (tag, target) = two_numbers(fields)?;
             Ok(Command::Place(Order::Enter { tag, target }))
         }
-        b'r' => {
+        'r' => {
             let (tag, target) = two_numbers(fields)?;
             Ok(Command::Place(Order::Reweigh { tag, target }))
         }
-        b'w' => {
+        'w' => {
             let tag = one_number(fields)?;
             Ok(Command::Place(Order::Withdraw { tag }))
         }
-        b'l' => {
+        'l' => {
             let (tag, address) = two_numbers(fields)?;
             Ok(Command::Look { tag, address })
         }
