@@ -21,7 +21,7 @@ use switch::making::make;
 use switch::register::Register;
 use switch::state::{Refused, State, retire};
 
-// It can be neither copied nor let go, as the state that it has: `shut` ends it.
+// It can be neither copied nor let go, like the state in it: `shut` ends it.
 pub struct Console<M> {
     register: Register,
     memory: M,
@@ -62,7 +62,7 @@ impl<M: Fitting> Console<M> {
         ensures { (miss : Misses) → Lawful miss → ConsoleObeys M.Reader.held_at M.Reader.size M.RuleMemory.limit miss (M.Fitting.most self.old.memory) (Make width capacity) self.old self.new result }
     {
         let state = self.begin(width, capacity)?;
-        self.run(state);
+        self.install(state);
         Ok(Reply::Settled(Outcome {
             worst: 0,
             rules: 0,
@@ -98,17 +98,17 @@ impl<M: Fitting> Console<M> {
                     &mut self.memory,
                 ) {
                     Ok((resting, forecast)) => {
-                        self.run(State::Resting(resting));
+                        self.install(State::Resting(resting));
                         Ok(forecast.into())
                     }
                     Err(Refused { state, why }) => {
-                        self.run(state);
+                        self.install(state);
                         Err(why)
                     }
                 }
             }
             Some(state) => {
-                self.run(state);
+                self.install(state);
                 Err(Refusal::Unreadable)
             }
             None => Err(Refusal::Unreadable),
@@ -126,8 +126,8 @@ impl<M: Fitting> Console<M> {
         Ok(Reply::Seen(server))
     }
 
-    // Runs a switch from now on. One that was running is let go.
-    fn run(&mut self, state: State)
+    // This is the running switch from now on. One that was running is let go.
+    fn install(&mut self, state: State)
         ensures running { self.new.running ≡ Some state }
         ensures register { self.new.register ≡ self.old.register }
         ensures memory { self.new.memory ≡ self.old.memory }

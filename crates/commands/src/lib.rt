@@ -3,6 +3,7 @@
 
 pub mod command;
 pub mod console;
+pub mod filling;
 pub mod pending;
 pub mod reading;
 pub mod reply;

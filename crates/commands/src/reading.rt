@@ -66,7 +66,7 @@ fn read_order(letter: char, fields: &[u8]) -> Result<Command, Refusal>
     }
 }
 
-// One number below 2^32, and nothing else. Each number field is taken by its own `let .. else`.
+// One number below 2^32, and nothing else. Kept as `let .. else`: that is how each number field is taken.
 fn one_number(text: &[u8]) -> Result<u32, Refusal>
     ensures { MatchResult result (λ n. text.now ≡ decimal n) (λ why. (why ≡ Unreadable) × ((n : ℕ) → n < 2 ^ 32 → text.now ≢ decimal n)) }
 {
@@ -94,8 +94,9 @@ fn two_numbers(text: &[u8]) -> Result<(u32, u32), Refusal>
 fn split_at_space(text: &[u8]) -> Result<(&[u8], &[u8]), Refusal>
     ensures { MatchResult result (λ parts. (text.now ≡ parts.0.now ++ 32 ∷ parts.1.now) × Without 32 parts.0.now) (λ why. (why ≡ Unreadable) × Without 32 text.now) }
 {
-    let Some(at) = text.iter().position(|byte| *byte == b' ') else {
-        return Err(Refusal::Unreadable);
-    };
+    let at = text
+        .iter()
+        .position(|byte| *byte == b' ')
+        .ok_or(Refusal::Unreadable)?;
     Ok((&text[..at], &text[at + 1..]))
 }

@@ -51,6 +51,7 @@ fn read_rules<'a>(records: &[u8], rules: &'a mut [Rule; 1024]) -> Result<&'a [Ru
     requires { length records.now ≤ 8 * 1024 }
     ensures { MatchResult result (λ read. (length read.now ≤ 1024) × (rules_in records.now ≡ Some read.now)) (λ why. (why ≡ BrokenLayout) × (rules_in records.now ≡ None)) }
 {
+    // Kept as a write by place: a proof does not know what a loop over a `zip` with `iter_mut` has written.
     for (place, bytes) in records.chunks(8).enumerate() {
         rules[place] = read_rule(bytes)?;
     }

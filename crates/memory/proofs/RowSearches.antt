@@ -1,13 +1,11 @@
 -- What the searches over the rows find.
-use Rattle.std.proofs.Common.{◌≡◌, ℕ, zero, suc, ◌+◌, ◌<◌, ◌≤◌, Bool, true, false, cond, leb, ltb, List, [], ◌∷◌, length, get_or, Some, None, Option, position, sym, refl, ap, ◌∙◌, arith}
+use Rattle.std.proofs.Common.{◌≡◌, ℕ, zero, suc, ◌+◌, ◌<◌, ◌≤◌, Bool, true, false, cond, leb, ltb, List, [], ◌∷◌, length, get_or, drop, Some, None, Option, position, sym, refl, ap, ◌∙◌, arith}
 use Rattle.std.proofs.lemmas.Bool.{and_parts, leb-true, le-leb, lt-leb, ltb-true, ltb-false, lt-ltb}
+use Rattle.std.proofs.lemmas.List.{at_drop_more, at_drop_all}
 use Rattle.std.proofs.lemmas.List.Recursion.{is_position_or_len}
 use Rattle.std.proofs.lemmas.List.Sums.{position_or_len_is}
-use Rattle.std.specs.List.{position_or_len, find}
+use Rattle.std.specs.List.{position_or_len}
 use Rattle.std.specs.List.Sorted.{IsPartitionedBy, IsPartitionPoint}
-use Rattle.std.specs.Option.{option_map, MatchOption, IsSomeAnd}
-use denote.Ref.{Bor}
-use Rattle.rules.specs.declared.server.Server.{Server}
 use Rattle.memory.specs.declared.row.Row.{Row}
 use Rattle.memory.specs.Rows.{row_prefixes, falling, in_rows, row_of, place_of, named, first_match, matches}
 use Rattle.memory.specs.RowLaws.{row_unheld}
@@ -31,20 +29,13 @@ module _ (rs : List Row) (v l : ℕ) where
       by true t e = absurd (cc)
       by false t e = row_unheld rs v l (omega (arith, place, ltb-false _ _ t))
 
--- the row that answers
-pub answers : (rs : List Row) (key : ℕ) → first_match rs key ≡ option_map (λ r. r.rule.server) (find (λ r. matches r key) rs)
-answers [] key = refl
-answers (r ∷ rs) key = by (answers rs key) (matches r key)
-  where
-    by : first_match rs key ≡ option_map (λ r. r.rule.server) (find (λ r. matches r key) rs) → (b : Bool) → cond b (Some r.rule.server) (first_match rs key) ≡ option_map (λ r. r.rule.server) (cond b (Some r) (find (λ r. matches r key) rs))
-    by ih true = refl
-    by ih false = ih
+-- one row more of the loop that looks for the row that answers, at a list that is known to be another, as the slice of a `Vec`
+pub match_at : {xs : List Row} (rules : List Row) (i : ℕ) (r : Row) (key : ℕ) → xs ≡ rules → i < length xs → r ≡ get_or xs i r → first_match (drop i rules) key ≡ cond (matches r key) (Some r.rule.server) (first_match (drop (i + 1) rules) key)
+match_at rules i r key e h is =
+    at_drop_more (λ rs. first_match rs key) rules i r (rw e at h) ∙ ap (λ x. cond (matches x key) (Some x.rule.server) (first_match (drop (i + 1) rules) key)) (sym (rw e at is))
 
--- `map` over what `find` gave
-pub server_of : (o : Option (Bor Row)) (r : Option Server) (P : Bor Row → Server → Type 0) → MatchOption o (r ≡ None) (λ x. IsSomeAnd r (P x)) → ((x : Bor Row) (s : Server) → P x s → s ≡ x.now.rule.server) → r ≡ option_map (λ (x : Row). x.rule.server) (option_map (λ x. x.now) o)
-server_of None r P m is = m
-server_of (Some x) None P m is = absurd m
-server_of (Some x) (Some s) P m is = ap Some (is x s m)
+pub match_none : (rules : List Row) (i key : ℕ) → length rules ≤ i → first_match (drop i rules) key ≡ None
+match_none rules i key h = at_drop_all (λ rs. first_match rs key) rules i h
 
 -- the longer prefixes stand ahead
 none_longer : (m : ℕ) (rs : List Row) (j : ℕ) (d : Row) → falling m (row_prefixes rs) ≡ true → j < length rs → (get_or rs j d).rule.prefix.length ≤ m

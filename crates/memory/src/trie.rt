@@ -19,10 +19,10 @@ pub(crate) struct Trie(pub(crate) Option<Box<Node>>);
 pub(crate) struct Node {
     server: Option<Server>,
     pub(crate) zero: Trie,
-    pub(crate) one: Trie,
+    one: Trie,
 }
 
-// A chain of spare nodes is long, so that it is let go by a loop along the bit 0.
+// A chain of spare nodes is long, so it is let go by a loop along the bit 0.
 impl Drop for Trie {
     fn drop(mut self) {
         loop {

@@ -41,7 +41,7 @@ fn services(targets: &[Option<u32>; 64]) -> usize
     targets.iter().flatten().count()
 }
 
-// None of them is capped.
+// None of them is capped. Kept as a cap: with `try_map` and `Weight::new` it did not prove which width each weight has.
 fn weights(width: Width, targets: &[Option<u32>; 64]) -> [Option<Weight>; 64]
     requires { Targets width.bits targets.now }
     ensures { Each (λ c w. (w.width.bits ≡ width.bits) × (w.addresses ≡ c)) targets.now result }

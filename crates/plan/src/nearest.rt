@@ -34,7 +34,7 @@ fn pick<E: Measure>(measure: &E, width: u32, target: u32, pair: (u32, u32)) -> u
     }
 }
 
-// The same where there is nothing to refuse.
+// The same where there is nothing to refuse: the public search takes any numbers, and so tries the width once more.
 pub(crate) fn nearest_within<E: Measure>(measure: &E, target: Weight, limit: u32) -> u32
     requires { 0 < limit }
     ensures { result ≡ nearest (E.Measure.miss measure.now) target.width.bits target.addresses limit }

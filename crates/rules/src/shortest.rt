@@ -69,6 +69,7 @@ impl Iterator for Table {
         if let Some(rule) = self.opening.take() {
             return Some(rule);
         }
+        // Kept as a loop over places: a closure of `find_map` would borrow the table while its place changes.
         for place in (0..self.place).rev() {
             self.place = place;
             if let Some(rule) = self.digit_rule(place) {

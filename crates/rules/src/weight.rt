@@ -1,4 +1,4 @@
-// The weight: how many of a width's addresses server 1 gets, or should get.
+// The weight: how many of a width's addresses a server gets, or should get. Where nothing else is said it is server 1.
 ghost use Rattle.std.specs.Prelude.{◌≡◌, ◌-◌, ◌^◌, ◌≤◌, min, IfOk};
 ghost use Rattle.rules.specs.Grounds.{weight_grounds};
 ghost use Rattle.rules.specs.Refusals.{first, refusal};
@@ -58,5 +58,15 @@ impl Weight {
             width: self.width,
             addresses: self.width.addresses() - self.addresses,
         }
+    }
+}
+
+impl Width {
+    // The width of a weight: refused as the weight is.
+    pub fn for_weight(bits: u32, weight: u32) -> Result<Self, Refusal>
+        ensures refused { refusal result ≡ first (weight_grounds bits weight) }
+        ensures kept { IfOk result (λ w. (w.bits ≡ bits) × (weight ≤ 2 ^ bits)) }
+    {
+        Ok(Weight::new(bits, weight)?.width)
     }
 }

@@ -47,15 +47,12 @@ fn confirm<E: Measure>(
         return Err(Refusal::StateMismatch);
     }
     match foresee(register, measure, forecast.order) {
-        Ok(prospect) if prospect.forecast == forecast => {
-            let weights = prospect.weights;
-            Ok(Change {
-                order: forecast.order,
-                weights,
-                steps: forecast.steps,
-                left: forecast.steps,
-            })
-        }
+        Ok(prospect) if prospect.forecast == forecast => Ok(Change {
+            order: forecast.order,
+            weights: prospect.weights,
+            steps: forecast.steps,
+            left: forecast.steps,
+        }),
         _ => Err(Refusal::StateMismatch),
     }
 }

@@ -31,6 +31,7 @@ fn settle(register: &mut Register) -> Result<(), Refusal>
     if change.left > 0 {
         return Err(Refusal::StepsMismatch);
     }
+    // Kept as names of their own: an array that comes straight from a call or a field did not prove.
     let targets = apply(register.targets, change.order);
     let weights = change.weights;
     register.targets = targets;

@@ -53,7 +53,7 @@ fn measure(tables: Tables) -> Extent
     Extent { bytes, count }
 }
 
-// The lines of all services: the writer of one service's lines is lent the free rest of the buffer, from its middle.
+// The lines of all services. Kept as a walk over the tags: each service's writer is lent the free rest of the buffer, from its middle.
 fn write_lines(out: &mut [u8], tables: Tables) -> usize
     requires { length (lines (standing tables.width.bits tables.weights.now)) ≤ length out.old }
     ensures value { result ≡ length (lines (standing tables.entry.width.bits tables.entry.weights.now)) }

@@ -68,6 +68,7 @@ pub(crate) fn apply(targets: [Option<u32>; 64], order: Order) -> [Option<u32>; 6
 fn with_target(mut targets: [Option<u32>; 64], tag: u32, target: Option<u32>) -> [Option<u32>; 64]
     ensures { result ≡ slice_set targets tag target }
 {
+    // Kept as a test: with `get_mut` it did not prove what the other places hold.
     if tag > 63 {
         return targets;
     }
@@ -100,11 +101,11 @@ fn find(register: &Register, tag: u32) -> Result<Option<u32>, Refusal>
     ensures refused { refusal result ≡ first (tag_grounds tag) }
     ensures found { IfOk result (λ target. target ≡ slice_index_or register.now.targets tag None) }
 {
-    let target = register
+    register
         .targets
         .get(tag as usize)
-        .ok_or(Refusal::TagOutOfRange)?;
-    Ok(*target)
+        .copied()
+        .ok_or(Refusal::TagOutOfRange)
 }
 
 // The same for an order with a target, which is refused above 2^W.

@@ -50,10 +50,7 @@ impl<'a> TaggedRules<'a> {
         ensures steps { rules_left self.old ≡ option_to_list result ++ rules_left self.new }
         ensures done { IfNone result (left_in self.new.table ≡ []) }
     {
-        let mut table = self.table?;
-        let rule = table.next();
-        self.table = Some(table);
-        let rule = rule?;
+        let rule = self.table.as_mut()?.next()?;
         Some(TaggedRule {
             tag: self.tag,
             rule,

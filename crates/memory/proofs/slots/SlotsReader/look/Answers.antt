@@ -1,22 +1,30 @@
-use Rattle.std.proofs.Common.{rules, ◌≡◌, ◌∙◌, sym, ap, arith}
-use Rattle.std.proofs.lemmas.Iterator.{YieldsList-from_slice}
-use Rattle.std.proofs.lemmas.Iterator.Search.{find_from_yields_List}
-use Rattle.std.specs.Option.{option_map}
-use Rattle.std.specs.List.{find}
-use borrow.Author.Tests.{tests}
-use Rattle.memory.specs.declared.row.Row.{Row}
+use Rattle.std.proofs.Common.{◌≡◌, ◌+◌, cond, length, drop, Some, None, sym, ap, ◌∙◌, arith}
 use Rattle.memory.specs.Looks.{longest}
-use Rattle.memory.specs.Rows.{in_rows, matches}
-use Rattle.memory.specs.RowLaws.{first_longest}
+use Rattle.memory.specs.Rows.{in_rows, first_match}
 use Rattle.memory.proofs.Longest.{looked}
-use Rattle.memory.proofs.RowSearches.{answers, server_of}
+use Rattle.memory.proofs.RowSearches.{match_at, match_none}
+use Rattle.memory.specs.RowLaws.{first_longest}
 use Rattle.memory.proofs.slots.SlotsReader.look.Goals as goal
+
+pub returns-then-covers : goal.returns-then-covers
+returns-then-covers c =
+    let rs = c.args.self.now.rows.items in
+    let s = match_at rs c.loop-row.row-index c.row-item.result c.args.key c.deref-row-items.ensures.value c.loop-row-test.true c.row-item.is in
+    let value : Some c.row-item.result.rule.server ≡ longest (in_rows c.args.self.now.rows.items) c.args.key =
+    sym (sym c.loop-row.invariant ∙ s ∙ ap (λ b. cond b (Some c.row-item.result.rule.server) (first_match (drop (c.loop-row.row-index + 1) rs) c.args.key)) (sym c.if-covers.ensures))
+    ∙ first_longest 32 rs c.args.key (omega arith) c.args.self.now.ordered in
+    record { value = value; best = looked (in_rows rs) c.args.key (Some c.row-item.result.rule.server) value (omega arith) }
+
+pub loop-row-preserved : goal.loop-row-preserved
+loop-row-preserved c =
+    let rs = c.args.self.now.rows.items in
+    let s = match_at rs c.loop-row.row-index c.row-item.result c.args.key c.deref-row-items.ensures.value c.loop-row-test.true c.row-item.is in
+    sym (s ∙ ap (λ b. cond b (Some c.row-item.result.rule.server) (first_match (drop (c.loop-row.row-index + 1) rs) c.args.key)) (sym c.if-covers.ensures)) ∙ c.loop-row.invariant
 
 pub returns : goal.returns
 returns c =
     let rs = c.args.self.now.rows.items in
-    let h = find_from_yields_List (λ (r : Row). matches r c.args.key) _ _ c.find.result c.find.ensures.ran (YieldsList-from_slice c.deref.result.now cc) (λ x b q k. search (rules, tests)) in
-    let first : c.map.result ≡ option_map (λ (r : Row). r.rule.server) (find (λ (r : Row). matches r c.args.key) rs) =
-    server_of c.find.result c.map.result _ c.map.ensures.cases (λ x s p. search (rules, tests)) ∙ ap (option_map (λ (r : Row). r.rule.server)) (h ∙ ap (find (λ (r : Row). matches r c.args.key)) c.deref.ensures.value) in
-    let value : c.map.result ≡ longest (in_rows rs) c.args.key = first ∙ sym (answers rs c.args.key) ∙ first_longest 32 rs c.args.key (omega arith) c.args.self.now.ordered in
-    record { value = value; best = looked (in_rows rs) c.args.key c.map.result value (omega arith) }
+    let value : None ≡ longest (in_rows c.args.self.now.rows.items) c.args.key =
+    sym (sym c.loop-row.invariant ∙ match_none rs c.loop-row.row-index c.args.key (omega (arith, ap length c.deref-row-items.ensures.value)))
+    ∙ first_longest 32 rs c.args.key (omega arith) c.args.self.now.ordered in
+    record { value = value; best = looked (in_rows rs) c.args.key None value (omega arith) }
