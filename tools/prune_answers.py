@@ -1,7 +1,7 @@
 #!/usr/bin/env python3
 """Leaves out of a crate's Answers.antt files the answers that the check finds alone.
 
-usage: prune.py CRATE_FOLDER      (proofs/ must be committed; git checkout gives them back)
+usage: tools/prune_answers.py CRATE_FOLDER      (proofs/ must be committed; git checkout gives them back)
 
 Deletes every Answers.antt, runs `rt check --margin` and then `rt check`, puts back the answers of the goals that either leaves open,
 and checks again until the crate proves. Prints what went.
@@ -78,7 +78,6 @@ def write():
 def check(*flags):
     r = subprocess.run(["rt", "check", *flags], capture_output=True, text=True)
     out = r.stdout + r.stderr
-    open("/tmp/prune-%s.log" % os.path.basename(crate), "a").write(out)
     opened = {(m.group(2), m.group(1)) for m in re.finditer(r"note: `([^`]+)` of (proofs/\S+/Answers\.antt) must prove", out)}
     opened |= {(m.group(1), g) for m in re.finditer(r"(?:write|add to) \./(proofs/\S+/Answers\.antt)[^\n]*\n((?:    [^\n]*\n)+)", out)
                for g in re.findall(r"^    pub (\S+) : goal\.", m.group(2), re.M)}
