@@ -22,16 +22,6 @@ write_service-used-requires c =
       lent_long c.loop-tag.out c.loop-tag.used,
     )
 
-pub overflow_add-used : goal.overflow_add-used
-overflow_add-used c =
-    let W = c.args.tables.width.bits in
-    let ds = c.args.tables.weights.now in
-    let i = c.loop-tag.tag in
-    omega (
-      arith,
-      turn_room (lines (standing W ds)) c.args.out.now (lines (from_tag W ds i)) c.loop-tag.out (lines (standing_of W ds i)) (lines (from_tag W ds (i + 1))) c.loop-tag.used c.loop-tag.invariant (lines_more W ds i (omega arith)),
-    )
-
 pub loop-tag-preserved : goal.loop-tag-preserved
 loop-tag-preserved c =
     let W = c.args.tables.width.bits in

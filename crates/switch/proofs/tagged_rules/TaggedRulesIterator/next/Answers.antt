@@ -1,11 +1,6 @@
-use Rattle.std.proofs.Common.{◌<◌, length, ap, ◌∙◌, arith, rules, refl}
+use Rattle.std.proofs.Common.{◌<◌, ◌∙◌, arith, refl}
 use Rattle.switch.proofs.Walking.{none_left, next_table}
 use Rattle.switch.proofs.tagged_rules.TaggedRulesIterator.next.Goals as goal
-
-pub returns-in-Some : goal.returns-in-Some
-returns-in-Some c =
-    let s = c.loop-rule.invariant ∙ c.in-Some.ensures.steps in
-    record { steps = s; goes = record { on = λ e. (tt, tt, omega (arith, ap length s)); keeps = search rules; rests = λ h. search rules } }
 
 pub returns-then-self-eq63-clause-steps : goal.returns-then-self-eq63-clause-steps
 returns-then-self-eq63-clause-steps c =
