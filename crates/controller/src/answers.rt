@@ -1,5 +1,5 @@
 // What the two calls answer. Kept as numbers of 32 bits, with a flag beside the excess, and not as a Result and an Option: this is the shape that C
-// knows. A refusal of 0 says that the call was carried out.
+// knows. A refusal of 0 says that the call was carried out. Each answer has its own `From`: an impl is for one type.
 ghost use Rattle.std.specs.Prelude.{◌≡◌};
 ghost use Rattle.controller.specs.Answers.{no_table, no_count, count_of};
 

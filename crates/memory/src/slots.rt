@@ -75,7 +75,8 @@ impl Slots {
             .partition_point(|row| row.rule.prefix.length > length)
     }
 
-    // Another rule in the row of its prefix.
+    // Another rule in the row of its prefix. That the capacity stays is kept as a clause of this and the next two: it is what a call leaves, and no fact
+    // of the rows.
     fn replace(&mut self, i: usize, row: Row)
         requires row { i ≡ row_of self.old.rows.items row.rule.prefix.value row.rule.prefix.length }
         requires within { i < vec_len self.old.rows }

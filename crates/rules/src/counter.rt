@@ -67,6 +67,7 @@ impl<'a> RuleList<'a> {
         } else {
             None
         };
+        // Kept field by field: `Count` is what callers see.
         Count {
             one: shares.one,
             two: shares.two,

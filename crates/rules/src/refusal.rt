@@ -50,7 +50,7 @@ impl Refusal {
     }
 }
 
-// A refusal is told by its number.
+// A refusal is told by its number. Kept beside the like impl of `Server`: an impl is for one type.
 impl fmt::Display for Refusal {
     ghost output = { λ why. Some (decimal (refusal_number why)) };
 

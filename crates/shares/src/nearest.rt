@@ -24,6 +24,7 @@ pub(crate) fn nearest_text(
 ) -> Result<String, AllocError>
     ensures { IfOk result (λ text. string_bytes text ≡ nearest_answer width target limit (first (limit_grounds width target limit))) }
 {
+    // Kept as a `match`: a refusal is told as text here, while `?` hands on that memory ran out.
     let even = match Near::find(&Even, width, target, limit) {
         Ok(even) => even,
         Err(why) => return refusal_text(heap, why),

@@ -25,6 +25,7 @@ pub(crate) fn plan_text(
 ) -> Result<String, AllocError>
     ensures { IfOk result (λ text. string_bytes text ≡ plan_answer width capacity targets.now (first (services_grounds width capacity targets.now))) }
 {
+    // Kept as a `match`: a refusal is told as text here, while `?` hands on that memory ran out.
     let width = match Width::new(width) {
         Ok(width) => width,
         Err(why) => return refusal_text(heap, why),

@@ -19,6 +19,7 @@ use text::refused::refusal_text;
 pub(crate) fn table_text(heap: Global, width: u32, weight: u32) -> Result<String, AllocError>
     ensures { IfOk result (λ text. string_bytes text ≡ table_answer width weight (first (weight_grounds width weight))) }
 {
+    // Kept as a `match`: a refusal is told as text here, while `?` hands on that memory ran out.
     let weight = match Weight::new(width, weight) {
         Ok(weight) => weight,
         Err(why) => return refusal_text(heap, why),

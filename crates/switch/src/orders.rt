@@ -1,4 +1,5 @@
-// The orders of a switch at rest: each gives a draft and leaves the register as it is.
+// The orders of a switch at rest: each gives a draft and leaves the register as it is. The three are kept as calls with names of their own, each one
+// call of `place_order`.
 ghost use Rattle.std.specs.Prelude.{◌≡◌, IfOk, MatchResult};
 ghost use Rattle.rules.specs.Refusals.{first, refusal};
 ghost use Rattle.model.specs.declared.order.Order.TheVariants.{Enter, Reweigh, Withdraw};

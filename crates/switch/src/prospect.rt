@@ -108,7 +108,7 @@ fn find(register: &Register, tag: u32) -> Result<Option<u32>, Refusal>
         .ok_or(Refusal::TagOutOfRange)
 }
 
-// The same for an order with a target, which is refused above 2^W.
+// The same for an order with a target, which is refused above 2^W: kept as one ground more behind the other.
 fn find_for(register: &Register, tag: u32, target: u32) -> Result<Option<u32>, Refusal>
     ensures refused { refusal result ≡ first (service_grounds register.now.width.bits tag target) }
     ensures found { IfOk result (λ standing. standing ≡ slice_index_or register.now.targets tag None) }

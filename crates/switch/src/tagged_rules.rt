@@ -35,6 +35,7 @@ impl<'a> Iterator for TaggedRules<'a> {
             if self.tag == 63 {
                 return None;
             }
+            // Kept as a number that rises: it is the iterator's own state.
             self.table = self.tables.table(self.tag + 1);
             self.tag += 1;
         }
