@@ -92,7 +92,7 @@ fn plan_of(heap: Global, numbers: &[u32]) -> Result<Option<Request>, AllocError>
 fn read_numbers(heap: Global, words: &[String]) -> Result<Option<Vec<u32>>, AllocError>
     ensures { IfOk result (λ o. MatchOption o (NoNumbers (map string_bytes words.now)) (λ v. Numbers (map string_bytes words.now) v.items)) }
 {
-    // Kept as a loop: of a `collect` into an `Option` it did not prove when there is none.
+    // Kept as a loop: with a `collect` into an `Option` the case of none did not prove.
     let mut numbers = Vec::new(heap);
     for word in words {
         let Some(number) = read_number(word.as_bytes()) else {

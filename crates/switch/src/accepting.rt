@@ -57,7 +57,7 @@ fn confirm<E: Measure>(
     }
 }
 
-// Lets the draft go. Refused where a change is under way.
+// Lets the draft go. Refused where a change is under way. Kept without `hand_back`: there is one ground, and no call inside that could refuse.
 pub fn discard(draft: Draft, register: &Register) -> Result<Resting, Refused<Draft>>
     ensures refused { refusal_of result ≡ first (discard_grounds (desk register.now)) }
     ensures state { MatchResult result (λ s. s.width ≡ register.now.width.bits) (λ e. e.state ≡ draft) }

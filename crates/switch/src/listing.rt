@@ -53,7 +53,8 @@ fn measure(tables: Tables) -> Extent
     Extent { bytes, count }
 }
 
-// The lines of all services. Kept as a walk over the tags: each service's writer is lent the free rest of the buffer, from its middle.
+// The lines of all services. Kept as a walk over the tags by a rule of the project: the writer of one service's lines is lent the free rest of the
+// buffer, from its middle.
 fn write_lines(out: &mut [u8], tables: Tables) -> usize
     requires { length (lines (standing tables.width.bits tables.weights.now)) ≤ length out.old }
     ensures value { result ≡ length (lines (standing tables.entry.width.bits tables.entry.weights.now)) }
@@ -101,7 +102,7 @@ fn line(tag: u32, rule: Rule) -> ArrayVec<u8, 44>
     push_number(&mut text, tag, b' ');
     push_number(&mut text, rule.start, b' ');
     push_number(&mut text, rule.length, b' ');
-    push_number(&mut text, rule.server.number() as u32, b'\n');
+    push_number(&mut text, u32::from(rule.server.number()), b'\n');
     text
 }
 

@@ -33,7 +33,8 @@ pub(crate) fn perform<M: RuleMemory, E: Measure>(
     }
 }
 
-// A refusal comes up with the state that it hands back.
+// A refusal comes up with the state that it hands back. Kept as a `match` on the call: calls are data that a caller lists, and the model reads the
+// same list.
 fn try_call<M: RuleMemory, E: Measure>(
     state: State,
     call: Call,

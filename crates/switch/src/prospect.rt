@@ -24,7 +24,8 @@ pub(crate) struct Prospect {
     pub(crate) weights: [Option<u32>; 64],
 }
 
-// The plan's own refusal, for more services than the capacity, comes up from the planner.
+// The plan's own refusal, for more services than the capacity, comes up from the planner. That there are 64 weights is a clause of its own, since a
+// proof that reads a field does not get what the field's type says of it.
 pub(crate) fn foresee<E: Measure>(
     register: &Register,
     measure: &E,

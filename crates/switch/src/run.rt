@@ -44,7 +44,8 @@ pub fn run<M: RuleMemory, E: Measure>(
 
 // Two switches at one width under one measure, each with its own calls and its own make of memory. Where both end outside a change, with equal
 // capacities, services and targets, they answer every look alike.
-// Kept with the parts of a side one by one: a register and a memory are lent each by itself at every call.
+// Kept with the parts of a side one by one: a register and a memory are lent each by itself at every call, and a side would be a public type for this
+// call alone.
 pub fn run_two<M: RuleMemory, N: RuleMemory, E: Measure>(
     measure: &E,
     width: u32,
