@@ -1,19 +1,14 @@
 -- The lines of a plan, and services by their order.
-use Rattle.std.proofs.Common.{◌≡◌, ℕ, zero, suc, ◌+◌, ◌-◌, ◌^◌, ◌<◌, ◌≤◌, Bool, false, ltb, List, [], ◌∷◌, ◌++◌, map, length, get_or, replicate, Some, None, Option, ◌⊎◌, inl, inr, sym, refl, ap, ◌∙◌, subst, arith, length-append}
+use Rattle.std.proofs.Common.{◌≡◌, ℕ, zero, suc, ◌+◌, ◌-◌, ◌^◌, ◌<◌, ◌≤◌, List, [], ◌∷◌, ◌++◌, map, length, get_or, replicate, Some, None, Option, ◌⊎◌, inl, inr, sym, refl, ◌∙◌, subst, arith, length-append}
 use native.Mathlib.Decide.{dec_le}
 use denote.Param.Members.{Mut, Called}
 use Rattle.std.specs.Array.{IsFromFnResultFrom, IsFromFnResult}
 use Rattle.std.specs.List.{slice_get}
-use Rattle.std.proofs.lemmas.Bool.{le-ltb}
 use Rattle.std.proofs.lemmas.List.{length-map, length-replicate, same_lists, get_or_default}
 use Rattle.plan.specs.ByTag.{Every, Each}
-use Rattle.plan.specs.Grounds.{plan_grounds}
 use Rattle.plan.specs.Measures.{Misses}
-use Rattle.plan.specs.Plans.{Given, services, beyond}
-use Rattle.rules.specs.declared.refusal.Refusal.TheVariants.{WidthOutOfRange, TagOutOfRange, BeyondWidth, TooManyServices}
-use Rattle.rules.specs.Grounds.{bad_width}
-use Rattle.rules.specs.Refusals.{◌when◌, first}
-use Rattle.shares.specs.Texts.{tagged, services_grounds, plan_lines}
+use Rattle.plan.specs.Plans.{Given}
+use Rattle.shares.specs.Texts.{tagged, plan_lines}
 
 -- ---- tags in order
 
@@ -72,11 +67,3 @@ each_inside miss W E (None ∷ ts) (None ∷ ds) (h, hs) = each_inside miss W E 
 each_inside miss W E (None ∷ ts) (Some d ∷ ds) (h, hs) = absurd h
 each_inside miss W E (Some c ∷ ts) (None ∷ ds) (h, hs) = absurd h
 each_inside miss W E (Some c ∷ ts) (Some d ∷ ds) (h, hs) = (h.closest.weight, each_inside miss W E ts ds hs)
-
--- ---- grounds
-
--- with few enough services the plan's own grounds are left
-pub same_grounds : (W R : ℕ) (ts : List ℕ) → length ts ≤ 64 → first (plan_grounds W R (tagged ts)) ≡ first (services_grounds W R ts)
-same_grounds W R ts h =
-    let f : ltb 64 (length ts) ≡ false = le-ltb 64 (length ts) h in
-    sym (ap (λ (b : Bool). first ((WidthOutOfRange when bad_width W) ∷ (TagOutOfRange when b) ∷ (BeyondWidth when beyond (2 ^ W) (tagged ts)) ∷ (TooManyServices when ltb R (services (tagged ts))) ∷ [])) f)
