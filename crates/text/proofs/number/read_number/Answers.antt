@@ -1,16 +1,29 @@
-use Rattle.std.proofs.Common.{sym, ◌∙◌, arith}
-use Rattle.std.specs.Str.{IsUtf8, IsValidUpTo, valid_up_to}
-use Rattle.text.proofs.Decimal.{unread, read, invalid, valid}
+use Rattle.std.proofs.Common.{◌≡◌, take, sym, arith}
+use Rattle.std.proofs.lemmas.List.{take_all}
+use Rattle.std.proofs.lemmas.Str.Parse.{digit_at}
+use Rattle.text.proofs.Decimal.{looks, written, more}
 use Rattle.text.proofs.number.read_number.Goals as goal
 
-pub returns-in_err-ok-in_default : goal.returns-in_err-ok-in_default
-returns-in_err-ok-in_default c =
-    let s = c.args.text.now in
-    let bad = invalid s (λ e. (¬ (IsUtf8 s)) × IsValidUpTo s (valid_up_to e)) c.from_utf8.result c.from_utf8.ensures.cases (sym c.ok.ensures.value ∙ c.in_err-ok-in_default.was) in
-    rw c.from_residual.ensures (unread s bad.1.0)
+pub returns-then-text-eq0 : goal.returns-then-text-eq0
+returns-then-text-eq0 c = λ n h e. let f = looks _ n h e in grind (arith, f.some, f.short, f.plain)
 
-pub returns-in_ok-ok-in_default : goal.returns-in_ok-ok-in_default
-returns-in_ok-ok-in_default c =
-    let s = c.args.text.now in
-    let same = valid s (λ e. (¬ (IsUtf8 s)) × IsValidUpTo s (valid_up_to e)) c.from_utf8.result c.in_ok-ok-in_default.field-0 c.from_utf8.ensures.cases (sym c.ok.ensures.value ∙ c.in_ok-ok-in_default.was) in
-    rw c.ok-in_default.ensures.value (read s _ _ same c.parse.ensures.value.0 (λ e. grind arith) (λ e. grind arith))
+pub returns-then-digit-lt48 : goal.returns-then-digit-lt48
+returns-then-digit-lt48 c =
+    λ n h e. let f = looks _ n h e in grind (arith, digit_at c.args.text.now c.loop-digit.digit-index f.digits (omega arith))
+
+pub loop-digit-preserved : goal.loop-digit-preserved
+loop-digit-preserved c =
+    more c.args.text.now c.loop-digit.digit-index c.loop-digit.value (omega arith) (omega arith) (omega arith) c.loop-digit.invariant.0
+    c.loop-digit.invariant.1
+
+pub returns-then-value-ge4294967296 : goal.returns-then-value-ge4294967296
+returns-then-value-ge4294967296 c =
+    let all : take c.loop-digit.digit-index c.args.text.now ≡ c.args.text.now = take_all _ _ (omega arith) in
+    let is = rw all at c.loop-digit.invariant.1 in
+    λ n h e. let f = looks _ n h e in omega (arith, is, f.worth)
+
+pub returns : goal.returns
+returns c =
+    let all : take c.loop-digit.digit-index c.args.text.now ≡ c.args.text.now = take_all _ _ (omega arith) in
+    let is = rw all at c.loop-digit.invariant.1 in
+    written _ _ (rw all at c.loop-digit.invariant.0) (omega arith) (λ z. grind arith) (sym is) (omega arith)

@@ -1,0 +1,7 @@
+use Rattle.std.proofs.Common.{◌≡◌, ◌^◌, ◌<◌, take}
+use Rattle.std.specs.Str.Parse.{AllDigits, digits_value}
+use Rattle.text.proofs.number.read_number.Given as goal
+
+abbrev pub invariant-loop-digit : goal.invariant-loop-digit
+invariant-loop-digit l =
+    AllDigits 10 (take l.digit-index l.text) × (l.value ≡ digits_value 10 (take l.digit-index l.text)) × (l.value < 10 ^ l.digit-index)
