@@ -33,9 +33,19 @@ same_le (Some One) (Some Two) = omega arith
 same_le (Some Two) (Some One) = omega arith
 same_le (Some Two) (Some Two) = omega arith
 
+same_all : (y : Option Server) → same (Some One) y + same (Some Two) y + same None y ≡ 1
+same_all None = refl
+same_all (Some One) = refl
+same_all (Some Two) = refl
+
 pub block_le : (W : ℕ) (rs : List Rule) (x : Option Server) (s n : ℕ) → in_block W rs x s n ≤ n
 block_le W rs x s zero = omega arith
 block_le W rs x s (suc n) = omega (arith, block_le W rs x s n, same_le x (first_match W rs (s + n)))
+
+-- each address of a block is answered in just one way
+pub block_all : (W : ℕ) (rs : List Rule) (s n : ℕ) → in_block W rs (Some One) s n + in_block W rs (Some Two) s n + in_block W rs None s n ≡ n
+block_all W rs s zero = refl
+block_all W rs s (suc n) = omega (arith, block_all W rs s n, same_all (first_match W rs (s + n)))
 
 -- one answer for all
 pub block_whole : (W : ℕ) (rs : List Rule) (x y : Option Server) (s n : ℕ) → ((a : ℕ) → s ≤ a → a < s + n → first_match W rs a ≡ y)

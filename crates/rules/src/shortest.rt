@@ -1,5 +1,5 @@
 // The shortest table of a weight, rule by rule.
-ghost use Rattle.std.specs.Prelude.{◌≡◌, ℕ, ◌+◌, ◌-◌, ◌*◌, ◌^◌, ◌<◌, ◌≤◌, ◌∷◌, ◌++◌, length, IfOk};
+ghost use Rattle.std.specs.Prelude.{◌≡◌, ℕ, ◌+◌, ◌-◌, ◌*◌, ◌^◌, ◌<◌, ◌≤◌, ◌∷◌, ◌++◌, length, IfOk, IfNone};
 ghost use Rattle.std.specs.Option.{option_to_list};
 ghost use Rattle.rules.specs.Digits.{after};
 ghost use Rattle.rules.specs.Grounds.{weight_grounds};
@@ -14,7 +14,6 @@ use crate::server::Server;
 use crate::table::Table;
 use crate::weight::Weight;
 use crate::width::power;
-use std::cmp::Ordering;
 
 // The rules come in the table's set order, and nothing is allocated. Server 1 gets exactly the addresses below the weight, by the longest match, and
 // no list of rules that leaves no address out gives it as many with fewer rules.
@@ -69,10 +68,12 @@ impl Iterator for Table {
         if let Some(rule) = self.opening.take() {
             return Some(rule);
         }
+        // Where server 1's addresses end so far: digits of 0 do not move it.
+        let end = self.end(self.place);
         // Kept as a loop over places: a closure of `find_map` would borrow the table while its place changes.
         for place in (0..self.place).rev() {
             self.place = place;
-            if let Some(rule) = self.digit_rule(place) {
+            if let Some(rule) = self.digit_rule(place, end) {
                 return Some(rule);
             }
         }
@@ -81,22 +82,21 @@ impl Iterator for Table {
 }
 
 impl Table {
-    // The rule of the digit at the place, if it is not 0: it moves the end of server 1's addresses.
-    fn digit_rule(&self, place: u32) -> Option<Rule>
-        requires { place < self.now.part.width.bits }
-        ensures { left_at self.now (place + 1) ≡ option_to_list result ++ left_at self.now place }
+    // The rule of the digit at the place, if it is not 0: it moves the end of server 1's addresses from where it was.
+    fn digit_rule(&self, place: u32, old: u32) -> Option<Rule>
+        requires place { place < self.now.part.width.bits }
+        requires old { old ≡ end_at self.now.part.width.bits self.now.first self.now.part.addresses (place + 1) }
+        ensures rule { left_at self.now (place + 1) ≡ option_to_list result ++ left_at self.now place }
+        ensures stays { IfNone result (old ≡ end_at self.now.part.width.bits self.now.first self.now.part.addresses place) }
     {
-        let old = self.end(place + 1);
         let new = self.end(place);
-        let server = match old.cmp(&new) {
-            Ordering::Less => Server::One,
-            Ordering::Greater => Server::Two,
-            Ordering::Equal => return None,
-        };
+        if old == new {
+            return None;
+        }
         Some(Rule {
             start: old.min(new),
             length: self.part.width.bits() - place,
-            server,
+            server: if old < new { Server::One } else { Server::Two },
         })
     }
 
