@@ -20,6 +20,16 @@ total_present f [] = refl
 total_present f (None ∷ xs) = total_present f xs
 total_present f (Some x ∷ xs) = omega (arith, sum_by-cons f x (present xs), total_present f xs)
 
+-- what an option counts for in a sum over all tags
+abbrev pub worth : {X : Type 0} → (X → ℕ) → Option X → ℕ
+worth f None = 0
+worth f (Some x) = f x
+
+pub total_worth : {X : Type 0} (f : X → ℕ) (xs : List (Option X)) → sum_by (worth f) xs ≡ total f xs
+total_worth f [] = refl
+total_worth f (None ∷ xs) = omega (arith, sum_by-cons (worth f) None xs, total_worth f xs)
+total_worth f (Some x ∷ xs) = omega (arith, sum_by-cons (worth f) (Some x) xs, total_worth f xs)
+
 pub count_present : {X : Type 0} (xs : List (Option X)) → length (present xs) ≡ total (λ x. 1) xs
 count_present [] = refl
 count_present (None ∷ xs) = count_present xs

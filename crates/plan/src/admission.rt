@@ -8,6 +8,7 @@ ghost use Rattle.plan.specs.Plans.{services, beyond, Targets};
 use rules::refusal::Refusal;
 use rules::weight::Weight;
 use rules::width::Width;
+use std::array;
 
 // The targets as weights of the width, unless there is a ground to refuse the plan.
 pub(crate) fn admit(
@@ -46,5 +47,5 @@ fn weights(width: Width, targets: &[Option<u32>; 64]) -> [Option<Weight>; 64]
     requires { Targets width.bits targets.now }
     ensures { Each (λ c w. (w.width.bits ≡ width.bits) × (w.addresses ≡ c)) targets.now result }
 {
-    targets.map(|target| target.map(|target| Weight::capped(width, target)))
+    array::from_fn(|tag| targets[tag].map(|target| Weight::capped(width, target)))
 }

@@ -1,10 +1,12 @@
 // The plan of all services of a switch.
-ghost use Rattle.std.specs.Prelude.{◌≡◌, IfOk};
+ghost use Rattle.std.specs.Prelude.{◌≡◌, ◌<◌, IfOk, None, slice_index_or};
 ghost use Rattle.rules.specs.Refusals.{first, refusal};
+ghost use Rattle.plan.specs.ByTag.{on};
 ghost use Rattle.plan.specs.Figures.{Figures};
 ghost use Rattle.plan.specs.Grounds.{plan_grounds};
+ghost use Rattle.plan.specs.Nearest.{nearest};
 ghost use Rattle.plan.specs.Plans.{Plan, worst_miss, plan_weights, rule_total};
-ghost use Rattle.plan.specs.Reached.{noted_weights};
+ghost use Rattle.plan.specs.Reached.{need_in, noted_weights};
 ghost use Rattle.plan.specs.Rivals.{Best};
 
 use crate::admission::admit;
@@ -14,6 +16,7 @@ use crate::planned::Planned;
 use crate::reach::Reach;
 use crate::sharing::{least_worst, reaches, rules_within};
 use rules::refusal::Refusal;
+use std::array;
 
 // The worst miss is the least at which all services together need no more rules than the memory has, and each gets the nearest weight with as
 // many rules as it needs for that. The targets stand by tag, None where there is no service.
@@ -47,5 +50,13 @@ pub fn plan<E: Measure>(
 fn weights<E: Measure>(measure: &E, reaches: &[Option<Reach>; 64], limit: u64) -> [Option<u32>; 64]
     ensures { result ≡ noted_weights (E.Measure.miss measure.now) limit reaches.now }
 {
-    reaches.map(|reach| reach.map(|reach| nearest_within(measure, reach.target, reach.need(limit))))
+    array::from_fn(
+        |tag|
+            requires { tag < 64 }
+            ensures { result ≡ on (λ r. nearest (E.Measure.miss measure.entry.now) r.target.width.bits r.target.addresses (need_in r.misses limit)) (slice_index_or reaches.entry.now tag None) }
+        {
+            let reach = reaches[tag].as_ref()?;
+            Some(nearest_within(measure, reach.target, reach.need(limit)))
+        },
+    )
 }

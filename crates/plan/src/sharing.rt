@@ -1,12 +1,13 @@
 // What all services together need. Kept as an array: each target's facts are its own, and a struct round them all makes no contract shorter.
-ghost use Rattle.std.specs.Prelude.{◌≡◌, ◌^◌, ◌≤◌};
-ghost use Rattle.plan.specs.ByTag.{Each};
+ghost use Rattle.std.specs.Prelude.{◌≡◌, ◌^◌, ◌<◌, ◌≤◌, None, slice_index_or};
+ghost use Rattle.plan.specs.ByTag.{Both, Each};
 ghost use Rattle.plan.specs.Nearest.{Least};
 ghost use Rattle.plan.specs.Reached.{Noted, noted_needs};
 
 use crate::measure::{FARTHEST, Measure};
 use crate::reach::Reach;
 use rules::weight::Weight;
+use std::array;
 
 // What each service can reach, noted once.
 pub(crate) fn reaches<E: Measure>(
@@ -15,7 +16,12 @@ pub(crate) fn reaches<E: Measure>(
 ) -> [Option<Reach>; 64]
     ensures { Each (λ w r. Noted (E.Measure.miss measure.now) w.width.bits w.addresses r) targets.now result }
 {
-    targets.map(|target| target.map(|target| Reach::new(measure, target)))
+    array::from_fn(
+        |tag|
+            requires { tag < 64 }
+            ensures { Both (λ w r. Noted (E.Measure.miss measure.entry.now) w.width.bits w.addresses r) (slice_index_or targets.entry.now tag None) result }
+        { targets[tag].map(|target| Reach::new(measure, target)) },
+    )
 }
 
 // How many rules all services together need to miss by at most `limit`.
@@ -24,8 +30,7 @@ pub(crate) fn rules_within(reaches: &[Option<Reach>; 64], limit: u64) -> u32
 {
     reaches
         .iter()
-        .flatten()
-        .map(|reach| reach.need(limit))
+        .map(|reach| reach.as_ref().map_or(0, |reach| reach.need(limit)))
         .sum()
 }
 

@@ -1,8 +1,5 @@
 -- The lines of a plan, and services by their order.
-use Rattle.std.proofs.Common.{◌≡◌, ℕ, zero, suc, ◌+◌, ◌-◌, ◌^◌, ◌<◌, ◌≤◌, List, [], ◌∷◌, ◌++◌, map, length, get_or, replicate, Some, None, Option, ◌⊎◌, inl, inr, sym, refl, ◌∙◌, subst, arith, length-append}
-use native.Mathlib.Decide.{dec_le}
-use denote.Param.Members.{Mut, Called}
-use Rattle.std.specs.Array.{IsFromFnResultFrom, IsFromFnResult}
+use Rattle.std.proofs.Common.{◌≡◌, ℕ, zero, suc, ◌-◌, ◌^◌, ◌<◌, ◌≤◌, List, [], ◌∷◌, ◌++◌, map, length, get_or, replicate, Some, None, Option, ◌⊎◌, inl, inr, sym, refl, ◌∙◌, arith, length-append}
 use Rattle.std.specs.List.{slice_get}
 use Rattle.std.proofs.lemmas.List.{length-map, length-replicate, same_lists, get_or_default}
 use Rattle.plan.specs.ByTag.{Every, Each}
@@ -11,24 +8,6 @@ use Rattle.plan.specs.Plans.{Given}
 use Rattle.shares.specs.Texts.{tagged, plan_lines}
 
 -- ---- tags in order
-
--- what `from_fn` gives, where no call changes the closure
-module _ {F B : Type 0} (g : Mut F (ℕ × Unit {0}) B) (R : ℕ → B → Type 0) (f : F)
-    (call : (i : ℕ) (y : B) (q : F) → Called g f (i, tt) y q → (q ≡ f) × R i y) where
-  filled_from : (ys : List B) (i n : ℕ) (p : F) → p ≡ f → IsFromFnResultFrom g p ys i n → (j : ℕ) (e : B) → i ≤ j → j < i + n → R j (get_or ys j e)
-  filled_from ys i zero p s m j e h k = absurd (omega arith)
-  filled_from ys i (suc n) p s (q, y, b, made, rest) j e h k =
-      go (dec_le j i) (λ l. filled_from ys (i + 1) n q here.0 rest j e l (omega arith))
-    where
-      here : (q ≡ f) × R i y
-      here = call i y q (subst (λ (v : F). Called g v (i, tt) y q) s made)
-
-      go : Dec (j ≤ i) → (i + 1 ≤ j → R j (get_or ys j e)) → R j (get_or ys j e)
-      go (yes l) more = let z : i ≡ j = omega arith in subst (λ (v : ℕ). R v (get_or ys v e)) z (subst (λ (v : B). R i v) (sym (b.1 e)) here.1)
-      go (no l) more = more (omega arith)
-
-  pub filled_at : (ys : List B) (n : ℕ) → IsFromFnResult g f ys n → (e : B) (j : ℕ) → j < n → R j (get_or ys j e)
-  filled_at ys n m e j h = filled_from ys 0 n f refl m.each j e (omega arith) (omega arith)
 
 none_at : (k j : ℕ) → get_or (replicate {A = Option ℕ} k None) j None ≡ None
 none_at zero j = refl

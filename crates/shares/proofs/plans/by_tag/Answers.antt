@@ -1,6 +1,7 @@
 use Rattle.std.proofs.Common.{◌≡◌, None, rules}
 use Rattle.std.specs.List.{slice_get}
-use Rattle.shares.proofs.Planning.{filled_at, tagged_is}
+use Rattle.plan.proofs.Mapped.{filled_at}
+use Rattle.shares.proofs.Planning.{tagged_is}
 use Rattle.shares.proofs.plans.by_tag.Goals as goal
 
 pub returns : goal.returns
