@@ -1,6 +1,6 @@
 -- The ways out of a put and of a remove, over what is held and not over any one memory.
-use Rattle.std.proofs.Common.{◌≡◌, ℕ, ◌+◌, ◌<◌, ◌≤◌, Bool, true, false, cond, not, ◌&&◌, eqb, leb, [], ◌∷◌, is_some, Some, None, Ok, Err, Result, sym, refl, ap, ◌∙◌, arith}
-use Rattle.std.proofs.lemmas.Bool.{and_from, and_left, and_right, le-leb, lt-leb, eqb-true}
+use Rattle.std.proofs.Common.{◌≡◌, ℕ, ◌+◌, ◌<◌, ◌≤◌, Bool, true, false, cond, not, ◌&&◌, eqb, leb, [], ◌∷◌, is_some, Some, None, Ok, Err, Option, Result, sym, refl, ap, ◌∙◌, arith}
+use Rattle.std.proofs.lemmas.Bool.{and_parts, and_from, and_left, and_right, le-leb, lt-leb, eqb-true, both_ways}
 use Rattle.rules.specs.declared.server.Server.{Server}
 use Rattle.rules.specs.declared.refusal.Refusal.{Refusal}
 use Rattle.rules.specs.declared.refusal.Refusal.TheVariants.{BrokenLayout, MemoryFull}
@@ -8,7 +8,7 @@ use Rattle.rules.specs.Refusals.{◌when◌, first, refusal}
 use Rattle.memory.specs.declared.key.Prefix.{Prefix}
 use Rattle.memory.specs.declared.key.KeyRule.{KeyRule}
 use Rattle.memory.specs.Keys.{formed}
-use Rattle.memory.specs.Holding.{Held, at}
+use Rattle.memory.specs.Holding.{Held, at, same_prefix}
 use Rattle.memory.specs.Writes.{broken, written, Put, Removed}
 
 abbrev Kept : (p : Prefix) → Type 0
@@ -67,3 +67,17 @@ module _ {T : Type 0} {h h' : Held} {n n' : ℕ} (p : Prefix) where
       unwritten v l true true i j = sym (ap (λ x. h x p.length) (eqb-true p.value v i) ∙ ap (h v) (eqb-true p.length l j)) ∙ o
       unwritten v l true false i j = refl
       unwritten v l false b i j = refl
+
+-- refused or not, after a remove nothing is held at its prefix, and all else is as it was
+pub remove_after : {T : Type 0} {h h' : Held} {n n' : ℕ} (p : Prefix) (r : Result T Refusal) → Removed h h' n n' p r
+    → ((v l : ℕ) → is_some (h v l) ≡ true → formed v l ≡ true) → (v l : ℕ) → h' v l ≡ written h p None v l
+remove_after p (Ok x) done layout v l = done.holds v l
+remove_after {h = h} p (Err why) done layout v l = done.holds v l ∙ by (same_prefix p v l) refl (formed p.value p.length) refl (h v l) refl
+  where
+    by : (b : Bool) → same_prefix p v l ≡ b → (f : Bool) → formed p.value p.length ≡ f → (o : Option Server) → h v l ≡ o → o ≡ cond b None o
+    by false eb f ef o eo = refl
+    by true eb f ef None eo = refl
+    by true eb true ef (Some s) eo = absurd (let z : Some why ≡ None = done.refused ∙ ap (λ y. first ((BrokenLayout when not y) ∷ [])) ef in let c : ◌≡◌ {A = ℕ} 0 1 = cc in omega arith)
+    by true eb false ef (Some s) eo =
+        let t = and_parts (eqb p.value v) (eqb p.length l) eb in
+        absurd (both_ways _ ef (ap (λ x. formed x p.length) (eqb-true p.value v t.0) ∙ ap (formed v) (eqb-true p.length l t.1) ∙ layout v l (ap is_some eo)))
