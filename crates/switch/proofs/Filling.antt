@@ -63,6 +63,11 @@ module _ (text o ys more out : List ℕ) (used : ℕ) (f : Filled text o used (y
 pub filled_as : (text o left left' out : List ℕ) (used : ℕ) → left ≡ left' → Filled text o used left out → Filled text o used left' out
 filled_as text o left left' out used e f = record { within = f.within; to_write = f.to_write ∙ e; bytes = f.bytes }
 
+-- the buffer keeps its length
+pub filled_long : (text o left out : List ℕ) (used : ℕ) → Filled text o used left out → length text ≤ length o → length out ≡ length o
+filled_long text o left out used f room =
+    omega (arith, f.within, ap length f.bytes, length-append (take used text) (drop used o), length-take-le used text f.within, length-drop used o)
+
 -- nothing is left
 pub used_all : (text o out : List ℕ) (used : ℕ) → Filled text o used [] out → used ≡ length text
 used_all text o out used f = omega (arith, f.within, ap length f.to_write, length-drop used text)

@@ -7,5 +7,6 @@ pub mod Lining
 pub mod Reading
 pub mod Registered
 pub mod Running
+pub mod Spelling
 pub mod Stepwise
 pub mod Walking

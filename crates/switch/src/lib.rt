@@ -4,6 +4,7 @@
 pub mod accepting;
 mod change;
 pub mod closing;
+mod decimals;
 pub mod listing;
 pub mod looking;
 pub mod making;

@@ -4,6 +4,7 @@ ghost use Rattle.arrayvec.specs.ArrayVec.{array_vec_len};
 ghost use Rattle.rules.specs.Refusals.{first, refusal};
 ghost use Rattle.switch.specs.Listings.{under, standing_of, standing, numbered, line, lines, trailer, listing, over, list_grounds, ReadBack};
 
+use crate::decimals::digits_of;
 use crate::register::Register;
 use crate::tables::Tables;
 use arrayvec::ArrayVec;
@@ -38,7 +39,7 @@ pub fn list(register: &Register, out: &mut [u8]) -> Result<usize, Refusal>
     Ok(used + rest)
 }
 
-// What the lines of all rules come to. One walk counts both.
+// What the lines of all rules come to. One walk counts both, and makes no line for it.
 fn measure(tables: Tables) -> Extent
     ensures bytes { result.bytes ≡ length (lines (standing tables.entry.width.bits tables.entry.weights.now)) }
     ensures count { result.count ≡ length (standing tables.entry.width.bits tables.entry.weights.now) }
@@ -47,10 +48,18 @@ fn measure(tables: Tables) -> Extent
     let mut bytes = 0;
     let mut count = 0;
     for rule in tables.rules() {
-        bytes += line(rule.tag, rule.rule).len() as u32;
+        bytes += measure_line(rule.tag, rule.rule);
         count += 1;
     }
     Extent { bytes, count }
+}
+
+fn measure_line(tag: u32, rule: Rule) -> u32
+    ensures value { result ≡ length (line (under tag rule)) }
+    ensures small { result ≤ 44 }
+{
+    let server = u32::from(rule.server.number());
+    digits_of(tag) + digits_of(rule.start) + digits_of(rule.length) + digits_of(server) + 4
 }
 
 // The lines of all services. Kept as a walk over the tags by a rule of the project: the writer of one service's lines is lent the free rest of the
